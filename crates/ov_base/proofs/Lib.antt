@@ -1,0 +1,10 @@
+pub mod Readers
+pub mod Numbers
+pub mod Keys
+pub mod Splits
+pub mod Versions
+pub mod Amounts
+pub mod Values
+pub mod Joins
+pub mod Traverse
+pub mod Printing

@@ -1,0 +1,77 @@
+-- What cutting gives is what was joined.
+use Rattle.std.proofs.Common.{◌≡◌, ℕ, ◌+◌, ◌-◌, ◌<◌, ◌^◌, Bool, true, false, List, [], ◌∷◌, ◌++◌, length, get_or, take, Option, Some, None, refl, sym, ap, subst, ◌∙◌, arith, inl, inr}
+use Rattle.std.specs.Option.{option_map}
+use Rattle.std.specs.List.{list_all}
+use Rattle.std.specs.Fmt.{decimal}
+use Rattle.std.specs.Str.Parse.{AllDigits}
+use Rattle.std.proofs.lemmas.Bool.{and_parts}
+use Rattle.std.proofs.lemmas.Bool.Decides.{eqb_tells}
+use Rattle.std.proofs.lemmas.List.{take-append-drop, drop_more, drop_all}
+use Rattle.std.proofs.lemmas.Fmt.{digits_decimal}
+use Rattle.std.proofs.lemmas.Str.Parse.{digit_from_value, numerals_by_value, tells_digits}
+use Rattle.ov_base.specs.Split.{cut_at, lacks, onto}
+
+pub cut_again : (b : ℕ) (xs ys : List ℕ) → lacks b xs ≡ true → cut_at b (xs ++ b ∷ ys) ≡ Some (xs, ys)
+cut_again b [] ys h = elim (eqb_tells b b) [ inl p ↦ rw p.0 refl | inr p ↦ absurd (p.1 refl) ]
+cut_again b (x ∷ xs) ys h =
+    elim (eqb_tells x b) [
+      | inl p ↦ let bad : false ≡ true = rw p.0 at h in absurd cc
+      | inr p ↦ let rest : lacks b xs ≡ true = rw p.0 at h in rw (p.0, cut_again b xs ys rest) refl
+    ]
+
+-- the parts of a cut
+taken_more : (x : ℕ) (o : Option (List ℕ × List ℕ)) (P : List ℕ → List ℕ → Type 0) (xs ys : List ℕ)
+    → ((us vs : List ℕ) → o ≡ Some (us, vs) → P (x ∷ us) vs) → option_map (onto (x ∷ [])) o ≡ Some (xs, ys) → P xs ys
+taken_more x None P xs ys f e = absurd cc
+taken_more x (Some p) P xs ys f e =
+    let q : ◌≡◌ {A = List ℕ × List ℕ} (x ∷ p.0, p.1) (xs, ys) = cc in
+    subst (λ (r : List ℕ × List ℕ). P r.0 r.1) q (f p.0 p.1 refl)
+
+pub cut_takes : (b : ℕ) (bytes xs ys : List ℕ) → cut_at b bytes ≡ Some (xs, ys) → bytes ≡ xs ++ b ∷ ys
+cut_takes b [] xs ys e = absurd cc
+cut_takes b (x ∷ bytes) xs ys e =
+    elim (eqb_tells x b) [
+      | inl p ↦ let e' : ◌≡◌ {A = Option (List ℕ × List ℕ)} (Some ([], bytes)) (Some (xs, ys)) = rw p.0 at e in
+          let q : ◌≡◌ {A = List ℕ × List ℕ} ([], bytes) (xs, ys) = cc in
+          subst (λ (r : List ℕ × List ℕ). x ∷ bytes ≡ r.0 ++ b ∷ r.1) q (ap (λ (y : ℕ). y ∷ bytes) p.1)
+      | inr p ↦ taken_more x (cut_at b bytes) (λ us vs. x ∷ bytes ≡ us ++ b ∷ vs) xs ys
+          (λ us vs e. ap (λ (t : List ℕ). x ∷ t) (cut_takes b bytes us vs e)) (rw p.0 at e)
+    ]
+
+digits_lack : (b : ℕ) (ds : List ℕ) → b < 48 → AllDigits 10 ds → lacks b ds ≡ true
+digits_lack b [] low h = refl
+digits_lack b (d ∷ ds) low h =
+    elim (eqb_tells d b) [
+      | inl p ↦ absurd (omega (arith, digit_from_value d h.0))
+      | inr p ↦ rw p.0 (digits_lack b ds low h.1)
+    ]
+
+pub decimal_lacks : (b n : ℕ) → b < 48 → n < 2 ^ 64 → lacks b (decimal n) ≡ true
+decimal_lacks b n low small = digits_lack b (decimal n) low (digits_decimal (numerals_by_value (AllDigits 10) tells_digits) n small)
+
+-- where each byte passes a test, a byte that does not is lacked
+pub passing_lack : (p : ℕ → Bool) (b : ℕ) (xs : List ℕ) → p b ≡ false → list_all p xs ≡ true → lacks b xs ≡ true
+passing_lack p b [] other h = refl
+passing_lack p b (x ∷ xs) other h =
+    let each = and_parts (p x) (list_all p xs) h in
+    elim (eqb_tells x b) [
+      | inl e ↦ let pass : p b ≡ true = ap p (sym e.1) ∙ each.0 in absurd cc
+      | inr e ↦ rw e.0 (passing_lack p b xs other each.1)
+    ]
+
+-- two lists that lack a byte, one behind the other, lack it
+pub lacks_appended : (b : ℕ) (xs ys : List ℕ) → lacks b xs ≡ true → lacks b ys ≡ true → lacks b (xs ++ ys) ≡ true
+lacks_appended b [] ys h k = k
+lacks_appended b (x ∷ xs) ys h k =
+    elim (eqb_tells x b) [
+      | inl e ↦ let bad : false ≡ true = rw e.0 at h in absurd cc
+      | inr e ↦ let rest : lacks b xs ≡ true = rw e.0 at h in rw e.0 (lacks_appended b xs ys rest k)
+    ]
+
+-- a list is all but its last, and the last
+pub last_apart : (xs : List ℕ) (d : ℕ) → 0 < length xs → xs ≡ take (length xs - 1) xs ++ get_or xs (length xs - 1) d ∷ []
+last_apart xs d some =
+    sym (take-append-drop (length xs - 1) xs)
+    ∙ ap (λ (t : List ℕ). take (length xs - 1) xs ++ t)
+    (drop_more xs (length xs - 1) d (omega arith)
+    ∙ ap (λ (t : List ℕ). get_or xs (length xs - 1) d ∷ t) (drop_all (length xs - 1 + 1) xs (omega arith)))

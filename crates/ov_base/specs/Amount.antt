@@ -1,0 +1,50 @@
+-- Amounts, seen as whole numbers, and their words.
+use Rattle.std.specs.Prelude.{◌≡◌, ℕ, ℤ, pos, negsuc, ◌<◌, ◌≤◌, ◌&&◌, Bool, true, false, ◌⊎◌, nat_lt, nat_le, ◌==◌, List, [], ◌∷◌, Option, Some, None, if◌then◌else◌}
+use Rattle.std.specs.Cmp.{IsEquivalence, int_eq_equiv}
+use Rattle.std.specs.Fmt.{signed_decimal}
+use Rattle.std.specs.Ordering.{int_eq}
+use Rattle.std.proofs.Common.{arith}
+use Rattle.std.proofs.lemmas.Grind.{common_steps}
+use lib.IntN.{neg_ℤ}
+use Rattle.ov_base.specs.Exact.{fails_or_same}
+use Rattle.ov_base.specs.Word.{◌>>=◌}
+use Rattle.ov_base.specs.Number.{number_of}
+
+-- the greatest amount
+abbrev pub most : ℕ
+most = 1000000000000000000
+
+-- a whole number from -most to most
+abbrev pub IsAmount : ℤ → Type 0
+IsAmount (pos n) = n ≤ most
+IsAmount (negsuc n) = n < most
+
+-- the one spelling: the number, with `-` before a negative one
+abbrev pub amount_text : ℤ → List ℕ
+amount_text z = signed_decimal z
+
+abbrev pub positive : ℕ → Option ℤ
+positive n = if nat_le n most then Some (pos n) else None
+
+abbrev pub negative : ℕ → Option ℤ
+negative n = if nat_lt 0 n && nat_le n most then Some (neg_ℤ (pos n)) else None
+
+-- reading a number, or `-` and a number other than 0
+unfoldable pub amount_of : List ℕ → Option ℤ
+amount_of [] = None
+amount_of (b ∷ bytes) = if b == 45 then (number_of bytes >>= negative) else (number_of (b ∷ bytes) >>= positive)
+
+-- whether two amounts are the same
+unfoldable pub amount_eq : ℤ → ℤ → Bool
+amount_eq x y = int_eq x y
+
+pub amount_eq-equiv : IsEquivalence amount_eq
+unfolding amount_eq
+amount_eq-equiv = int_eq_equiv
+
+pub amount_eq-exact : (x y : ℤ) → amount_eq x y ≡ true → x ≡ y
+unfolding amount_eq
+amount_eq-exact x y h = grind (arith, common_steps)
+
+pub amount_eq-cases : (x y : ℤ) → (amount_eq x y ≡ false) ⊎ (x ≡ y)
+amount_eq-cases x y = fails_or_same (amount_eq x y) (amount_eq-exact x y)

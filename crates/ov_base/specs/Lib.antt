@@ -1,0 +1,9 @@
+pub mod Exact
+pub mod Word
+pub mod Number
+pub mod Split
+pub mod Key
+pub mod Amount
+pub mod Version
+pub mod Tests
+pub mod Value

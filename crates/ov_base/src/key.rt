@@ -1,0 +1,130 @@
+//! Keys: the names of values.
+ghost use Rattle.std.specs.Prelude.{◌≡◌, ◌<◌, ◌≤◌, ◌++◌, length, IsTrue, ◌↔◌, refl, Some};
+ghost use Rattle.std.specs.Ordering.{nat_cmp};
+ghost use Rattle.std.specs.Cmp.{partial_equiv_from_equiv};
+ghost use Rattle.std.specs.Cmp.Lexicographic.{slice_cmp, nat_list_cmp_total};
+ghost use Rattle.ov_base.specs.Word.{Reads, itself};
+ghost use Rattle.ov_base.specs.Key.{IsKey, all_key_bytes, is_key_byte, key_of, key_eq, key_eq-equiv, key_eq-order, key_eq-ties, key_eq-exact};
+
+use crate::memory::Memory;
+use crate::plain::Plain;
+use std::cmp::Ordering;
+use std::marker::Model;
+
+/// The most bytes of a key.
+const KEY_ROOM: usize = 32;
+
+/// The name of a value: 1 to 32 bytes of ASCII letters, digits and `_`, held in place. Contracts see its
+/// bytes. Keys are ordered by their bytes, a prefix first (docs/STORE.md, Keys).
+#[derive(Clone, Copy, Debug)]
+pub struct Key {
+    cells: [u8; 32],
+    len: u8,
+}
+
+impl Model for Key {
+    ghost use Rattle.std.specs.Prelude.{ℕ, List, take, length, ◌-◌, ◌++◌, replicate};
+    ghost use Rattle.ov_base.specs.Key.{key_room, IsPadded, padded_cells, padded_len};
+
+    ghost Value = { List ℕ };
+
+    ghost view = { λ k. take k.len k.cells };
+
+    ghost invariant = { λ k. IsPadded k.cells k.len };
+
+    ghost inverse = { λ bytes. record { cells = bytes ++ replicate (key_room - length bytes) 0; len = length bytes } };
+
+    ghost inverse_ok = { λ k h i. record {
+      cells = padded_cells k.cells k.len h i;
+      len = padded_len k.cells k.len h i;
+    } };
+}
+
+impl Key {
+    /// The key of these bytes. None exactly where they are no key: none or more than 32, or one that is no
+    /// letter, digit or `_`. Takes no memory.
+    pub fn from_bytes(bytes: &[u8]) -> Option<Key>
+        ensures reads { Reads itself IsKey bytes.now result }
+        ensures exact { result ≡ key_of bytes.now }
+    {
+        if bytes.is_empty() || bytes.len() > KEY_ROOM || !has_key_bytes(bytes) {
+            return None;
+        }
+        let mut cells = [0u8; 32];
+        cells[..bytes.len()].copy_from_slice(bytes);
+        Some(Key {
+            cells,
+            len: bytes.len() as u8,
+        })
+    }
+
+    /// Its bytes.
+    pub fn bytes(&self) -> &[u8]
+        ensures bytes { result.now ≡ self.now }
+        ensures form { IsKey self.now }
+    {
+        &self.cells[..self.len as usize]
+    }
+}
+
+fn has_key_bytes(bytes: &[u8]) -> bool
+    ensures { result ≡ all_key_bytes bytes.now }
+{
+    bytes.iter().all(|b| stands_in_keys(*b))
+}
+
+fn stands_in_keys(byte: u8) -> bool
+    ensures { result ≡ is_key_byte byte }
+{
+    (48 <= byte && byte <= 57)
+        || (65 <= byte && byte <= 90)
+        || byte == 95
+        || (97 <= byte && byte <= 122)
+}
+
+impl PartialEq for Key {
+    ghost eq = { key_eq };
+
+    ghost laws = { partial_equiv_from_equiv key_eq-equiv };
+
+    #[tactic(auto, unfolding(crate::specs::Key::key_eq))]
+    fn eq(&self, other: &Self) -> bool {
+        self.bytes() == other.bytes()
+    }
+}
+
+impl Eq for Key {
+    ghost laws = { key_eq-equiv };
+}
+
+impl PartialOrd for Key {
+    ghost partial_cmp = { λ s t. Some (slice_cmp nat_cmp s t) };
+
+    ghost laws = { key_eq-order };
+
+    fn partial_cmp(&self, other: &Self) -> Option<Ordering> {
+        Some(self.cmp(other))
+    }
+}
+
+impl Ord for Key {
+    ghost cmp = { λ s t. slice_cmp nat_cmp s t };
+
+    ghost total = { nat_list_cmp_total };
+
+    ghost matches_partial_cmp = { λ s t. refl };
+
+    ghost matches_eq = { key_eq-ties };
+
+    fn cmp(&self, other: &Self) -> Ordering {
+        self.bytes().cmp(other.bytes())
+    }
+}
+
+impl Plain for Key {
+    ghost exact = { key_eq-exact };
+
+    fn copy(&self) -> Result<Key, Memory> {
+        Ok(*self)
+    }
+}

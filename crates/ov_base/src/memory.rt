@@ -1,0 +1,29 @@
+//! Want of memory, the one answer that is free.
+ghost use Rattle.std.specs.Prelude.{◌≡◌, ◌<◌, ◌++◌, [], ◌∷◌, vec_len, vec_capacity};
+
+use std::alloc::{AllocError, AllocFailed};
+
+/// Want of memory: an allocation was refused. What the call was to change is as before, unless the call
+/// says otherwise.
+#[derive(Clone, Copy, Debug, PartialEq, Eq)]
+pub struct Memory;
+
+impl From<AllocError> for Memory {
+    fn from(_refused: AllocError) -> Memory {
+        Memory
+    }
+}
+
+impl<T: Drop> From<AllocFailed<T>> for Memory {
+    fn from(_refused: AllocFailed<T>) -> Memory {
+        Memory
+    }
+}
+
+/// Adds an item for which there is room, so that no memory is taken.
+pub fn push_within<T: Drop>(items: &mut Vec<T>, item: T)
+    requires { vec_len items.old < vec_capacity items.old }
+    ensures { items.new.items ≡ items.old.items ++ item ∷ [] }
+{
+    let _ = items.push(item);
+}

@@ -1,0 +1,48 @@
+//! Whole numbers as words: decimal digits, without a sign and without a leading zero.
+ghost use Rattle.std.specs.Prelude.{◌≡◌, ◌++◌, decimal, OnOk, OnErr, IsTrue, ◌↔◌};
+ghost use Rattle.ov_base.specs.Word.{Reads};
+ghost use Rattle.ov_base.specs.Number.{IsWord64, IsPlain, number_of};
+
+use crate::memory::Memory;
+use std::alloc::Global;
+use std::str;
+
+/// The number that the bytes spell, up to `2^64 - 1`. None exactly where they spell none.
+pub fn parse_number(text: &[u8]) -> Option<u64>
+    ensures reads { Reads decimal IsWord64 text.now result }
+    ensures exact { result ≡ number_of text.now }
+{
+    plain_number(text)
+}
+
+fn plain_number(text: &[u8]) -> Option<u64>
+    ensures { Reads decimal IsWord64 text.now result }
+{
+    if !is_plain(text) {
+        return None;
+    }
+    match str::from_utf8(text) {
+        Ok(text) => text.parse::<u64>().ok(),
+        Err(_) => None,
+    }
+}
+
+fn is_plain(text: &[u8]) -> bool
+    ensures { IsTrue result ↔ IsPlain text.now }
+{
+    match text {
+        [] => false,
+        [b'0'] => true,
+        [first, ..] => *first != b'0' && *first != b'+',
+    }
+}
+
+/// Writes the number's one spelling at the end. On an error the text is as before.
+pub fn print_number(alloc: Global, number: u64, text: &mut Vec<u8>) -> Result<(), Memory>
+    ensures ok { OnOk result (text.new.items ≡ text.old.items ++ decimal number) }
+    ensures err { OnErr result (text.new.items ≡ text.old.items) }
+{
+    let digits = format!(in alloc; "{number}")?;
+    text.extend_from_slice(digits.as_bytes())?;
+    Ok(())
+}

@@ -1,0 +1,184 @@
+//! Versions: when and at which gateway a transaction was begun.
+ghost use Rattle.std.specs.Prelude.{◌≡◌, ◌<◌, ◌^◌, ◌++◌, ◌↔◌, IsSome, IfSome, OnOk, OnErr, Some, refl};
+ghost use Rattle.std.specs.Ordering.{nat_cmp};
+ghost use Rattle.std.specs.Cmp.{partial_equiv_from_equiv, nat_cmp_total};
+ghost use Rattle.ov_base.specs.Number.{number_eq, number_eq-equiv, number_eq-order, number_eq-ties, number_eq-exact};
+ghost use Rattle.ov_base.specs.Version.{number, time_of, gate_of, version_text, version_of, IsVersion};
+ghost use Rattle.ov_base.specs.Word.{Reads};
+
+use crate::memory::Memory;
+use crate::number::parse_number;
+use crate::plain::Plain;
+use crate::split::split_at_byte;
+use std::alloc::Global;
+use std::cmp::Ordering;
+use std::marker::Model;
+
+/// When a transaction was begun, below `2^47`, and at which gateway, up to 65535. Contracts see its number,
+/// `time * 65536 + gate`, and versions are ordered by it (docs/STORE.md, Versions).
+#[derive(Clone, Copy, Debug)]
+pub struct Version {
+    time: u64,
+    gate: u32,
+}
+
+impl Model for Version {
+    ghost use Rattle.std.specs.Prelude.{ℕ};
+    ghost use Rattle.ov_base.specs.Version.{number, time_of, gate_of, IsInForm, time_back, gate_back};
+
+    ghost Value = { ℕ };
+
+    ghost view = { λ v. number v.time v.gate };
+
+    ghost invariant = { λ v. IsInForm v.time v.gate };
+
+    ghost inverse = { λ n. record { time = time_of n; gate = gate_of n } };
+
+    ghost inverse_ok = { λ v h i. record {
+      time = time_back v.time v.gate h i;
+      gate = gate_back v.time v.gate h i;
+    } };
+}
+
+impl Version {
+    /// The version of this time and gate. None exactly where a bound fails.
+    pub fn new(time: u64, gate: u32) -> Option<Version>
+        ensures made { IsSome result ↔ ((time < 2 ^ 47) × (gate < 2 ^ 16)) }
+        ensures value { IfSome result (λ v. v ≡ number time gate) }
+    {
+        if time < (1 << 47) && gate < (1 << 16) {
+            Some(Version { time, gate })
+        } else {
+            None
+        }
+    }
+
+    /// The version of this number. None exactly from `2^63` on.
+    pub fn from_number(number: u64) -> Option<Version>
+        ensures made { IsSome result ↔ IsVersion number }
+        ensures value { IfSome result (λ v. v ≡ number) }
+    {
+        if number < (1 << 63) {
+            Some(Version {
+                time: number / 65536,
+                gate: (number % 65536) as u32,
+            })
+        } else {
+            None
+        }
+    }
+
+    /// Its number, which is below `2^63`.
+    pub fn number(self) -> u64
+        ensures value { result ≡ self }
+        ensures form { IsVersion self }
+    {
+        self.time * 65536 + u64::from(self.gate)
+    }
+
+    /// Its time.
+    pub fn time(self) -> u64
+        ensures { result ≡ time_of self }
+    {
+        self.time
+    }
+
+    /// Its gate.
+    pub fn gate(self) -> u32
+        ensures { result ≡ gate_of self }
+    {
+        self.gate
+    }
+
+    /// The version that the bytes spell, as `TIME.GATE`. None exactly where they spell none. Takes no memory.
+    pub fn parse(text: &[u8]) -> Option<Version>
+        ensures exact { result ≡ version_of text.now }
+        ensures reads { Reads version_text IsVersion text.now result }
+    {
+        version_read(text)
+    }
+
+    /// Writes the one spelling, `TIME.GATE`, at the end. On an error the text is as before.
+    pub fn print_to(self, alloc: Global, text: &mut Vec<u8>) -> Result<(), Memory>
+        ensures ok { OnOk result (text.new.items ≡ text.old.items ++ version_text self) }
+        ensures err { OnErr result (text.new.items ≡ text.old.items) }
+    {
+        print_mark(alloc, self.number(), text)
+    }
+}
+
+/// Writes a mark or a watermark, which are numbers of versions, in the spelling of versions at the end. On
+/// an error the text is as before.
+pub fn print_mark(alloc: Global, mark: u64, text: &mut Vec<u8>) -> Result<(), Memory>
+    ensures ok { OnOk result (text.new.items ≡ text.old.items ++ version_text mark) }
+    ensures err { OnErr result (text.new.items ≡ text.old.items) }
+{
+    let (time, gate) = (mark / 65536, mark % 65536);
+    let word = format!(in alloc; "{time}.{gate}")?;
+    text.extend_from_slice(word.as_bytes())?;
+    Ok(())
+}
+
+#[tactic(auto, unfolding(crate::specs::Version::version_of))]
+fn version_read(text: &[u8]) -> Option<Version>
+    ensures { result ≡ version_of text.now }
+{
+    let (time, gate) = split_at_byte(text, b'.')?;
+    let time = parse_number(time)?;
+    let gate = parse_number(gate)?;
+    if time < (1 << 47) && gate < (1 << 16) {
+        Some(Version {
+            time,
+            gate: gate as u32,
+        })
+    } else {
+        None
+    }
+}
+
+impl PartialEq for Version {
+    ghost eq = { number_eq };
+
+    ghost laws = { partial_equiv_from_equiv number_eq-equiv };
+
+    #[tactic(auto, unfolding(crate::specs::Number::number_eq))]
+    fn eq(&self, other: &Self) -> bool {
+        self.number() == other.number()
+    }
+}
+
+impl Eq for Version {
+    ghost laws = { number_eq-equiv };
+}
+
+impl PartialOrd for Version {
+    ghost partial_cmp = { λ v w. Some (nat_cmp v w) };
+
+    ghost laws = { number_eq-order };
+
+    fn partial_cmp(&self, other: &Self) -> Option<Ordering> {
+        Some(self.cmp(other))
+    }
+}
+
+impl Ord for Version {
+    ghost cmp = { nat_cmp };
+
+    ghost total = { nat_cmp_total };
+
+    ghost matches_partial_cmp = { λ v w. refl };
+
+    ghost matches_eq = { number_eq-ties };
+
+    fn cmp(&self, other: &Self) -> Ordering {
+        self.number().cmp(&other.number())
+    }
+}
+
+impl Plain for Version {
+    ghost exact = { number_eq-exact };
+
+    fn copy(&self) -> Result<Version, Memory> {
+        Ok(*self)
+    }
+}
