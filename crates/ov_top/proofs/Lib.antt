@@ -1,0 +1,9 @@
+pub mod Items
+pub mod Entries
+pub mod Scripts
+pub mod ScriptsAgain
+pub mod Endings
+pub mod Puts
+pub mod Steps
+pub mod Headlines
+pub mod Replies

@@ -1,0 +1,7 @@
+pub mod Script
+pub mod Run
+pub mod Engine
+pub mod Names
+pub mod Ending
+pub mod Causes
+pub mod Headline

@@ -1,0 +1,282 @@
+//! The worked examples of the command `step`, as tables over a shelf and a sink in memory.
+use crate::{FirstEntry, Story, stepped_top};
+use ov_base::{Amount, Key, Sequence, Value, Version};
+use ov_functor::{Reply, Shown};
+use ov_io::{MemoryShelf, MemorySink, NamedFile, SureShelf, SureSink};
+use std::alloc::{AllocError, Global};
+use std::test::Fail;
+
+/// One centre, one partition and one gateway.
+const TOPOLOGY: &str = "centres = 1\npartitions = 1\ngateways = [0]\nwrite = 1\nread = 1\n";
+
+/// One put and one get.
+const SCRIPT: &str = "session a g0\na do put x 5\na do get x\n";
+
+const REPORT: &str = "a 1 done 1.0\na 2 done 2.0 x=5\n";
+
+const WORDS: [&str; 4] = ["step", "a", "b", "c"];
+
+const USAGE: &str = "usage: oceanvista step [--journal] TOPOLOGY SCRIPT SCHEDULE
+       oceanvista run [--journal] TOPOLOGY SCRIPT WORKERS
+       oceanvista audit TOPOLOGY SCRIPT JOURNAL
+       oceanvista make NUMBER COMMANDS
+";
+
+/// How a call ended: its status, what was written, and its story.
+#[derive(Drop)]
+struct Outcome {
+    status: u8,
+    written: String,
+    story: Story,
+}
+
+fn file(alloc: Global, name: &str, bytes: &[u8]) -> Result<NamedFile, AllocError> {
+    Ok(NamedFile {
+        name: Sequence::from_vec(Vec::from_slice(alloc, name.as_bytes())?),
+        bytes: Sequence::from_vec(Vec::from_slice(alloc, bytes)?),
+        failed: 0,
+    })
+}
+
+fn files_of(alloc: Global, files: &[(&str, &str)]) -> Result<Vec<NamedFile>, AllocError> {
+    let mut named = Vec::new(alloc);
+    for (name, text) in files {
+        named.push(file(alloc, name, text.as_bytes())?)?;
+    }
+    Ok(named)
+}
+
+fn words_of(alloc: Global, words: &[&str]) -> Result<Vec<String>, AllocError> {
+    let mut owned = Vec::new(alloc);
+    for word in words {
+        owned.push(String::from_str(alloc, word)?)?;
+    }
+    Ok(owned)
+}
+
+/// Runs the words over these files; the reads and the puts with these numbers fail.
+fn run(
+    alloc: Global,
+    words: &[&str],
+    files: &[(&str, &str)],
+    reads: &[u64],
+    puts: &[u64],
+) -> Result<Outcome, Fail> {
+    let words = words_of(alloc, words)?;
+    let mut shelf = MemoryShelf::of(files_of(alloc, files)?, Vec::from_slice(alloc, reads)?);
+    let mut out = MemorySink::of(alloc, Vec::from_slice(alloc, puts)?);
+    let mut story = Story::empty(alloc);
+    let status = stepped_top(alloc, words.as_slice(), &mut shelf, &mut out, &mut story);
+    let text = str::from_utf8(out.written())?;
+    Ok(Outcome {
+        status,
+        written: String::from_str(alloc, text)?,
+        story,
+    })
+}
+
+#[test]
+fn scripts_are_executed_and_reported(rt: HostRuntime) -> Result<(), Fail> {
+    let cases = [
+        ("one put and one get", SCRIPT, REPORT),
+        ("no line", "", ""),
+        ("a session without a command", "session a g0\n", ""),
+        (
+            "gets before and after puts",
+            "session a g0\na do get x\na do put x 5\na do put x 6\na do get x\n",
+            "a 1 done 1.0 x=absent\na 2 done 2.0\na 3 done 3.0\na 4 done 4.0 x=6\n",
+        ),
+        (
+            "keys apart, and the bounds of amounts",
+            "session s1 g0\ns1 do put A_1 -1000000000000000000\ns1 do put b 1000000000000000000\ns1 do get A_1\ns1 do get b\ns1 do get B\n",
+            "s1 1 done 1.0\ns1 2 done 2.0\ns1 3 done 3.0 A_1=-1000000000000000000\ns1 4 done 4.0 b=1000000000000000000\ns1 5 done 5.0 B=absent\n",
+        ),
+    ];
+    for (name, script, report) in cases {
+        let files = [("a", TOPOLOGY), ("b", script), ("c", "")];
+        let outcome = run(rt.alloc(), &WORDS, &files, &[], &[])?;
+        assert_eq!(rt; outcome.status, 0, "{name}");
+        assert_eq!(rt; outcome.written.as_str(), report, "{name}");
+    }
+    Ok(())
+}
+
+#[test]
+fn the_story_has_the_entries_of_each_command(rt: HostRuntime) -> Result<(), Fail> {
+    let files = [("a", TOPOLOGY), ("b", SCRIPT), ("c", "")];
+    let outcome = run(rt.alloc(), &WORDS, &files, &[], &[])?;
+    let entries = outcome.story.entries.as_slice();
+    assert_eq!(rt; outcome.story.script.len(), 2);
+    assert_eq!(rt; entries.len(), 4);
+    let x = Key::from_bytes(b"x").ok_or("a key")?;
+    let five = Amount::new(5).ok_or("an amount")?;
+    let version = Version::new(2, 0).ok_or("a version")?;
+    let mut gets = Sequence::new(rt.alloc());
+    gets.push(Shown {
+        key: x,
+        value: Value::Number(five),
+    })?;
+    let last = FirstEntry::Replied {
+        seq: 2,
+        reply: Reply::Done { version, gets },
+    };
+    assert!(rt; entries[3] == last);
+    Ok(())
+}
+
+#[test]
+fn words_off_the_form_are_usage(rt: HostRuntime) -> Result<(), Fail> {
+    let files = [("a", TOPOLOGY), ("b", SCRIPT), ("c", "")];
+    let cases: [&[&str]; 8] = [
+        &[],
+        &["step"],
+        &["step", "a", "b"],
+        &["step", "a", "b", "c", "d"],
+        &["steps", "a", "b", "c"],
+        &["run", "a", "b", "9"],
+        &["step", "a", "-", "c"],
+        &["step", "--journal", "--journal", "a"],
+    ];
+    for words in cases {
+        let outcome = run(rt.alloc(), words, &files, &[], &[])?;
+        assert_eq!(rt; outcome.status, 2, "{words:?}");
+        assert_eq!(rt; outcome.written.as_str(), USAGE, "{words:?}");
+        assert!(rt; outcome.story == Story::empty(rt.alloc()));
+    }
+    Ok(())
+}
+
+#[test]
+fn files_off_the_form_are_not_built(rt: HostRuntime) -> Result<(), Fail> {
+    let two_gateways = "centres = 1\npartitions = 1\ngateways = [0, 0]\nwrite = 1\nread = 1\n";
+    let topology = (3, "topology: not built\n");
+    let script = (4, "script: not built\n");
+    let schedule = (5, "schedule: not built\n");
+    let cases = [
+        (two_gateways, SCRIPT, "", topology),
+        ("", SCRIPT, "", topology),
+        (TOPOLOGY, "session a g1\n", "", script),
+        (TOPOLOGY, "session session g0\n", "", script),
+        (TOPOLOGY, "session A g0\n", "", script),
+        (TOPOLOGY, "session abcdefghijklmnopq g0\n", "", script),
+        (TOPOLOGY, "a do get x\n", "", script),
+        (TOPOLOGY, "session a g0\nb do get x\n", "", script),
+        (TOPOLOGY, "session a g0\na do get x", "", script),
+        (TOPOLOGY, "session a g0\na  do get x\n", "", script),
+        (TOPOLOGY, "session a g0\na do get x \n", "", script),
+        (TOPOLOGY, "session a g0\r\n", "", script),
+        (TOPOLOGY, "session a g0\na do put x -0\n", "", script),
+        (TOPOLOGY, "session a g0\na do put x 05\n", "", script),
+        (
+            TOPOLOGY,
+            "session a g0\na do put x 1000000000000000001\n",
+            "",
+            script,
+        ),
+        (TOPOLOGY, "session a g0\na do put x-y 1\n", "", script),
+        (TOPOLOGY, "session a g0\na do get x ; get y\n", "", script),
+        (TOPOLOGY, "session a g0\na do add x 1\n", "", script),
+        (TOPOLOGY, "session a g0\n\n", "", script),
+        (TOPOLOGY, "session a g0\nsession b g0\n", "", script),
+        (TOPOLOGY, "\n", "", script),
+        (TOPOLOGY, SCRIPT, "settle e0\n", schedule),
+        (TOPOLOGY, SCRIPT, "\n", schedule),
+    ];
+    for (first, second, third, (status, text)) in cases {
+        let files = [("a", first), ("b", second), ("c", third)];
+        let outcome = run(rt.alloc(), &WORDS, &files, &[], &[])?;
+        assert_eq!(rt; outcome.status, status, "{second:?}");
+        assert_eq!(rt; outcome.written.as_str(), text, "{second:?}");
+        assert!(rt; outcome.story.entries.is_empty());
+    }
+    Ok(())
+}
+
+#[test]
+fn a_script_has_at_most_4000_commands(rt: HostRuntime) -> Result<(), Fail> {
+    for (count, status) in [(4000, 0), (4001, 4)] {
+        let mut script = String::from_str(rt.alloc(), "session a g0\n")?;
+        for _ in 0..count {
+            script.push_str("a do put x 5\n")?;
+        }
+        let files = [("a", TOPOLOGY), ("b", script.as_str()), ("c", "")];
+        let outcome = run(rt.alloc(), &WORDS, &files, &[], &[])?;
+        assert_eq!(rt; outcome.status, status);
+    }
+    Ok(())
+}
+
+#[test]
+fn a_file_beyond_the_limit_is_too_long(rt: HostRuntime) -> Result<(), Fail> {
+    for (size, status, text) in [
+        (4_194_305usize, 10, "too long: s\n"),
+        (4_194_304, 4, "script: not built\n"),
+    ] {
+        let long = vec![in rt.alloc(); b'x'; size]?;
+        let files = [
+            ("a", TOPOLOGY),
+            ("s", str::from_utf8(long.as_slice())?),
+            ("c", ""),
+        ];
+        let outcome = run(rt.alloc(), &["step", "a", "s", "c"], &files, &[], &[])?;
+        assert_eq!(rt; outcome.status, status);
+        assert_eq!(rt; outcome.written.as_str(), text);
+    }
+    Ok(())
+}
+
+#[test]
+fn a_failing_shelf_is_a_read_fault(rt: HostRuntime) -> Result<(), Fail> {
+    let whole = [("a", TOPOLOGY), ("b", SCRIPT), ("c", "")];
+    for (read, text, commands) in [
+        (1, "read fault: a\n", 0),
+        (2, "read fault: b\n", 0),
+        (3, "read fault: c\n", 2),
+    ] {
+        let outcome = run(rt.alloc(), &WORDS, &whole, &[read], &[])?;
+        assert_eq!(rt; outcome.status, 7);
+        assert_eq!(rt; outcome.written.as_str(), text);
+        assert_eq!(rt; outcome.story.script.len(), commands);
+        assert!(rt; outcome.story.entries.is_empty());
+    }
+    let without_schedule = [("a", TOPOLOGY), ("b", SCRIPT)];
+    let outcome = run(rt.alloc(), &WORDS, &without_schedule, &[], &[])?;
+    assert_eq!(rt; outcome.status, 7);
+    assert_eq!(rt; outcome.written.as_str(), "read fault: c\n");
+    assert_eq!(rt; outcome.story.script.len(), 2);
+    Ok(())
+}
+
+#[test]
+fn a_failing_sink_leaves_the_lines_before(rt: HostRuntime) -> Result<(), Fail> {
+    let whole = [("a", TOPOLOGY), ("b", SCRIPT), ("c", "")];
+    for (put, written) in [(1, ""), (2, "a 1 done 1.0\n")] {
+        let outcome = run(rt.alloc(), &WORDS, &whole, &[], &[put])?;
+        assert_eq!(rt; outcome.status, 8);
+        assert_eq!(rt; outcome.written.as_str(), written);
+        assert_eq!(rt; outcome.story.entries.len(), 4);
+    }
+    let outcome = run(rt.alloc(), &WORDS, &whole, &[1], &[1])?;
+    assert_eq!(rt; outcome.status, 8);
+    assert!(rt; outcome.written.is_empty());
+    Ok(())
+}
+
+#[test]
+fn a_sure_shelf_and_a_sure_sink_give_the_report(rt: HostRuntime) -> Result<(), Fail> {
+    let words = words_of(rt.alloc(), &WORDS)?;
+    let files = [("a", TOPOLOGY), ("b", SCRIPT)];
+    let mut shelf = SureShelf::of(files_of(rt.alloc(), &files)?);
+    let mut out = SureSink::new(rt.alloc());
+    let mut story = Story::empty(rt.alloc());
+    let status = stepped_top(
+        rt.alloc(),
+        words.as_slice(),
+        &mut shelf,
+        &mut out,
+        &mut story,
+    );
+    assert_eq!(rt; status, 0);
+    assert_eq!(rt; out.written(), REPORT.as_bytes());
+    Ok(())
+}
