@@ -1,5 +1,6 @@
 -- An amount that is read is written so, and what is written is read again.
 use Rattle.std.proofs.Common.{◌≡◌, ℕ, zero, suc, ℤ, pos, negsuc, ◌<◌, ◌≤◌, ◌^◌, ltb, leb, ◌&&◌, true, List, [], ◌∷◌, length, Some, refl, ap, subst, arith, inl, inr}
+use Rattle.std.specs.Prelude.{slice_index}
 use Rattle.std.specs.Fmt.{decimal}
 use Rattle.std.specs.Str.Parse.{AllDigits}
 use Rattle.std.proofs.lemmas.Bool.{lt-ltb, le-leb, leb-true, and_parts}
@@ -56,3 +57,10 @@ amount_takes (b ∷ bs) z e =
 pub amount_lacks : (b : ℕ) (z : ℤ) → b < 45 → IsAmount z → lacks b (amount_text z) ≡ true
 amount_lacks b (pos n) low h = decimal_lacks b n (omega arith) (omega arith)
 amount_lacks b (negsuc n) low h = elim (eqb_tells 45 b) [ inl e ↦ absurd (omega arith) | inr e ↦ rw e.0 (decimal_lacks b (suc n) (omega arith) (omega arith)) ]
+
+-- no amount begins with a byte above the digits
+pub amount_begins : (b : ℕ) (bytes : List ℕ) (z : ℤ) → 57 < b → IsAmount z → amount_text z ≡ b ∷ bytes → ⊥
+amount_begins b bytes (pos n) high h e =
+    let digits : AllDigits 10 (b ∷ bytes) = subst (AllDigits 10) e (digits_decimal (numerals_by_value (AllDigits 10) tells_digits) n (omega arith)) in
+    omega (arith, digit_from_value b digits.0)
+amount_begins b bytes (negsuc n) high h e = let first : ◌≡◌ {A = ℕ} 45 b = ap (λ (t : List ℕ). slice_index t 0) e in omega arith

@@ -3,9 +3,11 @@ use Rattle.std.proofs.Common.{◌≡◌, ℕ, Bool, true, false, eqb, List, [], 
 use Rattle.std.specs.List.{slice_split, onto_first, flat_map, AllByRecursion}
 use Rattle.std.proofs.lemmas.Bool.{cases_Bool}
 use Rattle.std.proofs.lemmas.Bool.Decides.{eqb_tells}
+use Rattle.std.proofs.lemmas.List.{append-nil}
 use Rattle.std.proofs.lemmas.List.Splits.{slice_split-cons_yes, slice_split-cons_no, slice_split_none, slice_split_at}
 use Rattle.std.proofs.lemmas.List.Elements.{All-from_recursion}
 use Rattle.ov_base.specs.Split.{joined, lacks}
+use Rattle.ov_base.proofs.Splits.{lacks_appended}
 
 -- the pieces of a split are never none
 joined_onto : {X : Type 0} (y x : X) (pieces : List (List X)) → joined y (onto_first x pieces) ≡ x ∷ joined y pieces
@@ -60,3 +62,62 @@ joined_ends y text piece (item ∷ items) =
     append_assoc piece (y ∷ joined y (text item ∷ map text items)) (y ∷ [])
     ∙ ap (λ (t : _). piece ++ y ∷ t)
     (joined_ends y text (text item) items ∙ sym (append_assoc (text item) (y ∷ []) (flat_map (λ item. text item ++ y ∷ []) items)))
+
+-- pieces behind pieces
+pub joined_behind : {X : Type 0} (y : X) (piece : List X) (pieces : List (List X)) (next : List X) (others : List (List X))
+    → joined y ((piece ∷ pieces) ++ next ∷ others) ≡ joined y (piece ∷ pieces) ++ y ∷ joined y (next ∷ others)
+joined_behind y piece [] next others = refl
+joined_behind y piece (second ∷ pieces) next others =
+    ap (λ (t : _). piece ++ y ∷ t) (joined_behind y second pieces next others)
+    ∙ sym (append_assoc piece (y ∷ joined y (second ∷ pieces)) (y ∷ joined y (next ∷ others)))
+
+-- the list has an element
+abbrev pub HasFirst : {X : Type 0} → List X → Type 0
+HasFirst {X} xs = (first : X) × (others : List X) × (xs ≡ first ∷ others)
+
+-- lists of which the first has an element, joined, have one
+pub joined_first : {X Y : Type 0} (z : X) (pieces : Y → List X) → ((item : Y) → HasFirst (pieces item)) → (item : Y) (items : List Y) → HasFirst (joined z (map pieces (item ∷ items)))
+joined_first z pieces some item [] = some item
+joined_first z pieces some item (next ∷ items) =
+    let s = some item in
+    (s.0, s.1 ++ z ∷ joined z (map pieces (next ∷ items)), ap (λ (t : _). t ++ z ∷ joined z (map pieces (next ∷ items))) s.2)
+
+joined_apart : {X : Type 0} (y : X) (front back : List (List X)) (z : List X) → HasFirst front → HasFirst back
+    → joined y (front ++ z ∷ back) ≡ joined y front ++ y ∷ z ++ y ∷ joined y back
+joined_apart y front back z f b =
+    rw (f.2, b.2) (joined_behind y f.0 f.1 z (b.0 ∷ b.1) ∙ sym (append_assoc (joined y (f.0 ∷ f.1)) (y ∷ z) (y ∷ joined y (b.0 ∷ b.1))))
+
+regrouped : {X : Type 0} (y : X) (front mid next others : List X) → front ++ mid ++ y ∷ (next ++ others) ≡ front ++ (((mid ++ y ∷ []) ++ next) ++ others)
+regrouped y front mid next others =
+    append_assoc front mid (y ∷ (next ++ others))
+    ∙ ap (λ (t : _). front ++ t) (sym (append_assoc (mid ++ y ∷ []) next others ∙ append_assoc mid (y ∷ []) (next ++ others)))
+
+-- groups of pieces with the piece z between the groups, joined: z stands behind the first group before each further one
+pub joined_groups : {X Y : Type 0} (y : X) (z : List X) (pieces : Y → List (List X)) → ((item : Y) → HasFirst (pieces item)) → (item : Y) (items : List Y)
+    → joined y (joined z (map pieces (item ∷ items))) ≡ joined y (pieces item) ++ flat_map (λ item. (y ∷ z ++ y ∷ []) ++ joined y (pieces item)) items
+joined_groups y z pieces some item [] = sym (append-nil (joined y (pieces item)))
+joined_groups y z pieces some item (next ∷ items) =
+    joined_apart y (pieces item) (joined z (map pieces (next ∷ items))) z (some item) (joined_first z pieces some next items)
+    ∙ ap (λ (t : _). joined y (pieces item) ++ y ∷ z ++ y ∷ t) (joined_groups y z pieces some next items)
+    ∙ regrouped y (joined y (pieces item)) (y ∷ z) (joined y (pieces next)) (flat_map (λ item. (y ∷ z ++ y ∷ []) ++ joined y (pieces item)) items)
+
+-- pieces without y, of which there is one, joined, are split again
+pub split_again : {X : Type 0} (p : X → Bool) (y : X) → p y ≡ true → (pieces : List (List X)) → HasFirst pieces → AllByRecursion (Lacks p) pieces → slice_split p (joined y pieces) ≡ pieces
+split_again {X} p y here [] some each = let bad : ◌≡◌ {A = List (List X)} [] (some.0 ∷ some.1) = some.2 in absurd cc
+split_again p y here (piece ∷ pieces) some each = split_joined p y here piece pieces each.0 each.1
+
+each_appended : {X : Type 0} (Holds : X → Type 0) (xs ys : List X) → AllByRecursion Holds xs → AllByRecursion Holds ys → AllByRecursion Holds (xs ++ ys)
+each_appended Holds [] ys h k = k
+each_appended Holds (x ∷ xs) ys h k = (h.0, each_appended Holds xs ys h.1 k)
+
+-- what holds of y and of each element of each piece holds of each element of the pieces, joined
+pub each_joined : {X : Type 0} (Holds : X → Type 0) (y : X) → Holds y → (pieces : List (List X)) → AllByRecursion (AllByRecursion Holds) pieces → AllByRecursion Holds (joined y pieces)
+each_joined Holds y here [] h = tt
+each_joined Holds y here (piece ∷ []) h = h.0
+each_joined Holds y here (piece ∷ next ∷ pieces) h = each_appended Holds piece (y ∷ joined y (next ∷ pieces)) h.0 (here, each_joined Holds y here (next ∷ pieces) h.1)
+
+-- pieces that lack a byte, joined by another, lack it
+pub lacks_joined : (b y : ℕ) → eqb y b ≡ false → (pieces : List (List ℕ)) → AllByRecursion (λ piece. lacks b piece ≡ true) pieces → lacks b (joined y pieces) ≡ true
+lacks_joined b y other [] h = refl
+lacks_joined b y other (piece ∷ []) h = h.0
+lacks_joined b y other (piece ∷ next ∷ pieces) h = lacks_appended b piece (y ∷ joined y (next ∷ pieces)) h.0 (rw other (lacks_joined b y other (next ∷ pieces) h.1))

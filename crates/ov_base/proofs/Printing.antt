@@ -28,6 +28,10 @@ printed_then (Err error) old mid new front back e p = (
   p.3 ∙ ap (λ (t : List ℕ). t ++ p.0) e ∙ append_assoc old front p.0,
 )
 
+-- a front of what stands in front was written
+pub printed_before : (old new front back : List ℕ) → AddsFront old new front → AddsFront old new (front ++ back)
+printed_before old new front back p = (p.0, p.1 ++ back, ap (λ (t : List ℕ). t ++ back) p.2 ∙ append_assoc p.0 p.1 back, p.3)
+
 -- a text of a list is that of a front, of the next item and of the others
 pub flat_map_parts : {A : Type 0} (f : A → List ℕ) (xs : List A) (i : ℕ) (d : A) → i < length xs
     → flat_map f xs ≡ flat_map f (take i xs) ++ (f (get_or xs i d) ++ flat_map f (drop (i + 1) xs))

@@ -1,6 +1,7 @@
 -- Readers: steps that may answer nothing, and the clause `Reads` from the two laws of a spelling.
-use Rattle.std.proofs.Common.{◌≡◌, ℕ, Bool, true, false, cond, List, Option, Some, None, refl, ap, ◌∙◌}
+use Rattle.std.proofs.Common.{◌≡◌, ℕ, Bool, true, false, cond, List, Option, Some, None, refl, sym, ap, ◌∙◌, inl, inr}
 use Rattle.std.specs.Str.{bytes_eq}
+use Rattle.std.proofs.lemmas.Bool.{cases_Bool}
 use Rattle.std.proofs.lemmas.Slice.Eq.{bytes_eq-Decides}
 use Rattle.ov_base.specs.Word.{◌>>=◌, Reads}
 
@@ -22,6 +23,14 @@ chosen false o y e = absurd cc
 pub either : {A P : Type 0} (b : Bool) (o other : Option A) (y : A) → cond b o other ≡ Some y → (b ≡ true → o ≡ Some y → P) → (other ≡ Some y → P) → P
 either true o other y e f g = f refl e
 either false o other y e f g = g e
+
+-- a word that is read is not a word that is not
+pub words_differ : {A : Type 0} (f : List ℕ → Option A) (word other : List ℕ) (v : A) → f word ≡ Some v → f other ≡ None → bytes_eq word other ≡ false
+words_differ f word other v e none =
+    elim (cases_Bool (bytes_eq word other)) [
+      | inl same ↦ let h : f other ≡ Some v = ap f (sym (word_is word other same)) ∙ e in absurd cc
+      | inr apart ↦ apart
+    ]
 
 reads_by_cases : {A : Type 0} (f : List ℕ → Option A) (text : A → List ℕ) (Fits : A → Type 0)
     → ((v : A) → Fits v → f (text v) ≡ Some v) → (bs : List ℕ) (r : Option A) → f bs ≡ r → ((v : A) → f bs ≡ Some v → Fits v × (bs ≡ text v)) → Reads text Fits bs r

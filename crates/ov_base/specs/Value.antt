@@ -1,5 +1,5 @@
 -- The words of values.
-use Rattle.std.specs.Prelude.{ℕ, List, Option, Some, codes, if◌then◌else◌}
+use Rattle.std.specs.Prelude.{ℕ, ℤ, pos, List, Option, Some, codes, if◌then◌else◌}
 use Rattle.std.specs.Str.{bytes_eq}
 use Rattle.ov_base.specs.Word.{◌>>=◌}
 use Rattle.ov_base.specs.Amount.{IsAmount, amount_text, amount_of}
@@ -10,6 +10,11 @@ use Rattle.ov_base.specs.declared.value.Value.TheVariants.{Absent, Number}
 abbrev pub IsValue : Value → Type 0
 IsValue Absent = Unit {0}
 IsValue (Number amount) = IsAmount amount
+
+-- the amount of a value, absent counted as 0
+abbrev pub or_zero : Value → ℤ
+or_zero Absent = pos 0
+or_zero (Number amount) = amount
 
 -- the one spelling: `absent`, or the amount
 abbrev pub value_text : Value → List ℕ

@@ -2,7 +2,7 @@
 ghost use Rattle.std.specs.Prelude.{◌≡◌, ◌++◌, OnOk, OnErr, ◌↔◌, IsSome, IfSome};
 ghost use Rattle.std.specs.Cmp.{partial_equiv_from_equiv};
 ghost use Rattle.ov_base.specs.Word.{Reads};
-ghost use Rattle.ov_base.specs.Amount.{IsAmount, amount_text, amount_of, amount_eq, amount_eq-equiv, amount_eq-exact};
+ghost use Rattle.ov_base.specs.Amount.{IsAmount, bounded, sum_of, difference_of, least_of, greatest_of, fits_in, amount_text, amount_of, amount_eq, amount_eq-equiv, amount_eq-exact};
 
 use crate::memory::Memory;
 use crate::number::parse_number;
@@ -33,6 +33,9 @@ impl Model for Amount {
 }
 
 impl Amount {
+    /// The amount 0.
+    pub const ZERO: Amount = Amount { number: 0 };
+
     /// The amount of this number. None exactly outside the range.
     pub fn new(number: i64) -> Option<Amount>
         ensures made { IsSome result ↔ IsAmount number }
@@ -53,6 +56,49 @@ impl Amount {
         self.number
     }
 
+    /// The sum, which stops at both ends of the range.
+    pub fn sum(self, other: Amount) -> Amount
+        ensures { result ≡ sum_of self other }
+    {
+        nearest(self.number + other.number)
+    }
+
+    /// The difference, which stops at both ends of the range.
+    pub fn difference(self, other: Amount) -> Amount
+        ensures { result ≡ difference_of self other }
+    {
+        nearest(self.number - other.number)
+    }
+
+    /// The lesser of the two.
+    pub fn least(self, other: Amount) -> Amount
+        ensures { result ≡ least_of self other }
+    {
+        if self.number < other.number {
+            self
+        } else {
+            other
+        }
+    }
+
+    /// The greater of the two.
+    pub fn greatest(self, other: Amount) -> Amount
+        ensures { result ≡ greatest_of self other }
+    {
+        if self.number < other.number {
+            other
+        } else {
+            self
+        }
+    }
+
+    /// Whether the plain sum is at most `10^18`.
+    pub fn fits(self, other: Amount) -> bool
+        ensures { result ≡ fits_in self other }
+    {
+        self.number + other.number <= MOST
+    }
+
     /// The amount that the bytes spell: a number, or `-` and a number other than 0. None exactly where
     /// they spell none.
     pub fn parse(text: &[u8]) -> Option<Amount>
@@ -71,6 +117,19 @@ impl Amount {
         let digits = format!(in alloc; "{number}")?;
         text.extend_from_slice(digits.as_bytes())?;
         Ok(())
+    }
+}
+
+/// The amount that is nearest to the number.
+fn nearest(number: i64) -> Amount
+    ensures { result ≡ bounded number }
+{
+    if number < -MOST {
+        Amount { number: -MOST }
+    } else if number > MOST {
+        Amount { number: MOST }
+    } else {
+        Amount { number }
     }
 }
 

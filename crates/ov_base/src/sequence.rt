@@ -34,6 +34,15 @@ impl<T> Sequence<T> {
         }
     }
 
+    /// An empty list of other items, over the same allocator. Takes no memory.
+    pub fn empty<U>(&self) -> Sequence<U>
+        ensures { result ≡ [] }
+    {
+        Sequence {
+            items: Vec::new(*self.items.allocator()),
+        }
+    }
+
     /// The list of these items. Takes no memory.
     pub fn from_vec(items: Vec<T>) -> Sequence<T>
         ensures { result ≡ items.items }

@@ -1,7 +1,7 @@
 //! The value of a key.
 ghost use Rattle.std.specs.Prelude.{◌≡◌, ◌++◌, OnOk, OnErr};
 ghost use Rattle.ov_base.specs.Tests.{exact_tests};
-ghost use Rattle.ov_base.specs.Value.{IsValue, value_text, value_of};
+ghost use Rattle.ov_base.specs.Value.{IsValue, or_zero, value_text, value_of};
 ghost use Rattle.ov_base.specs.Word.{Reads};
 
 use crate::amount::Amount;
@@ -19,6 +19,16 @@ pub enum Value {
 }
 
 impl Value {
+    /// Its amount; an absent value counts as 0.
+    pub fn or_zero(self) -> Amount
+        ensures { result ≡ or_zero self }
+    {
+        match self {
+            Value::Absent => Amount::ZERO,
+            Value::Number(amount) => amount,
+        }
+    }
+
     /// The value that the bytes spell: `absent`, or an amount. None exactly where they spell none. Takes no
     /// memory.
     pub fn parse(text: &[u8]) -> Option<Value>

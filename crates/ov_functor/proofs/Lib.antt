@@ -1,0 +1,10 @@
+pub mod FunctorCode
+pub mod TransactionCode
+pub mod Agreement
+pub mod SerialFold
+pub mod Latest
+pub mod WindowValues
+pub mod MovesExact
+pub mod ItemValues
+pub mod PartWords
+pub mod PartWordsAgain

@@ -44,3 +44,22 @@ impl Plain for Shown {
         Ok(*self)
     }
 }
+
+/// The value of a key at a version.
+#[derive(Clone, Copy, Debug, PartialEq, Eq)]
+pub struct Valued {
+    /// The version of the item.
+    pub version: Version,
+    /// Its key.
+    pub key: Key,
+    /// What its functor gives.
+    pub value: Value,
+}
+
+impl Plain for Valued {
+    ghost exact = { λ x y h. Prim.grind (exact_tests) };
+
+    fn copy(&self) -> Result<Valued, Memory> {
+        Ok(*self)
+    }
+}

@@ -5,19 +5,29 @@
 //! transaction makes of the key.
 //!
 //! Start with `specs/Execution.antt`, which says what executing a whole transaction does to a map from keys
-//! to values, and `specs/Functor.antt`, which says what each functor is.
+//! to values, and `specs/Functor.antt`, which says what each functor is. The laws stand in `src/laws.rt`.
 #![tactic(auto)]
 
+mod command;
 mod effect;
+mod error;
 mod functor;
 mod item;
+mod items;
+mod laws;
 mod part;
 mod reply;
 mod transaction;
+mod words;
 
+pub use command::Command;
 pub use effect::Effect;
-pub use functor::Functor;
-pub use item::{Item, Shown};
-pub use part::Part;
+pub use error::TxnError;
+pub use functor::{Functor, FunctorError};
+pub use item::{Item, Shown, Valued};
+pub use items::items_of;
+pub use laws::{functor_agreement, moves_are_exact, serial_fold, window_values};
+pub use part::{Move, Part};
 pub use reply::Reply;
-pub use transaction::{Transaction, TxnError};
+pub use transaction::Transaction;
+pub use words::{parse_parts, print_parts};

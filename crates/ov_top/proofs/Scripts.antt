@@ -8,77 +8,50 @@ use Rattle.std.proofs.lemmas.Bool.Decides.{eqb_tells}
 use Rattle.std.proofs.lemmas.List.{length-map, nil_from_length}
 use Rattle.std.proofs.lemmas.Option.{cond_some}
 use Rattle.ov_base.specs.Split.{cut_at, joined, all_of}
-use Rattle.ov_base.specs.Key.{key_of}
-use Rattle.ov_base.specs.Amount.{amount_of}
-use Rattle.ov_base.proofs.Readers.{bind_some, word_is, chosen, either}
-use Rattle.ov_base.proofs.Keys.{key_takes}
-use Rattle.ov_base.proofs.Amounts.{amount_takes}
+use Rattle.ov_base.proofs.Readers.{bind_some, word_is, chosen}
 use Rattle.ov_base.proofs.Splits.{cut_takes, last_apart}
 use Rattle.ov_base.proofs.Joins.{joined_split, joined_ends, split_some}
 use Rattle.ov_base.proofs.Traverse.{all_of_takes}
 use Rattle.ov_functor.specs.declared.part.Part.{Part}
-use Rattle.ov_functor.specs.declared.part.Part.TheVariants.{Put, Get}
+use Rattle.ov_functor.specs.declared.error.TxnError.{TxnError}
+use Rattle.ov_functor.specs.Transaction.{transaction_error}
+use Rattle.ov_functor.specs.Words.{parts_of}
+use Rattle.ov_functor.proofs.PartWords.{parts_takes}
 use Rattle.ov_top.specs.declared.script.FirstScript.{FirstScript}
-use Rattle.ov_top.specs.Script.{is_session, part_text, command_text, session_text, script_text, IsPart, IsCommand, IsScript, most_commands, lines_of, get_of, put_of, part_by, part_of, do_of, command_part, command_of, named_of, session_of, commands_of, script_lines, script_of}
+use Rattle.ov_top.specs.Script.{is_session, command_text, session_text, script_text, IsCommand, IsScript, most_commands, lines_of, do_of, command_words, transaction_by, command_of, named_of, session_of, commands_of, script_lines, script_of}
 
-get_takes : (words : List ℕ) (part : Part) → get_of words ≡ Some part → IsPart part × (codes "get " ++ words ≡ part_text part)
-get_takes words part e =
-    bind_some (key_of words) _ part e λ key read last.
-    let q : ◌≡◌ {A = Part} (Get key) part = cc in
-    let k = key_takes words key read in
-    subst (λ (p : Part). IsPart p × (codes "get " ++ words ≡ part_text p)) q (k.0, ap (λ (t : List ℕ). codes "get " ++ t) k.1)
-
-put_takes : (words : List ℕ) (part : Part) → put_of words ≡ Some part → IsPart part × (codes "put " ++ words ≡ part_text part)
-put_takes words part e =
-    bind_some (cut_at 32 words) _ part e λ cut here rest.
-    bind_some (key_of cut.0) _ part rest λ key read rest2.
-    bind_some (amount_of cut.1) _ part rest2 λ amount read2 last.
-    let q : ◌≡◌ {A = Part} (Put key amount) part = cc in
-    let k = key_takes cut.0 key read in
-    let a = amount_takes cut.1 amount read2 in
-    let text : words ≡ key ++ 32 ∷ cut.1 = cut_takes 32 words cut.0 cut.1 here ∙ ap (λ (t : List ℕ). t ++ 32 ∷ cut.1) k.1 in
-    subst (λ (p : Part). IsPart p × (codes "put " ++ words ≡ part_text p)) q
-    ((k.0, a.0), ap (λ (t : List ℕ). codes "put " ++ t) (text ∙ ap (λ (t : List ℕ). key ++ 32 ∷ t) a.1))
-
-part_by_takes : (word words : List ℕ) (part : Part) → part_by word words ≡ Some part → IsPart part × (word ++ 32 ∷ words ≡ part_text part)
-part_by_takes word words part e =
-    either (bytes_eq word (codes "get")) (get_of words) _ part e
-    (λ same h. rw (word_is word (codes "get") same) (get_takes words part h))
-    λ other. let c = chosen (bytes_eq word (codes "put")) (put_of words) part other in
-    rw (word_is word (codes "put") c.0) (put_takes words part c.1)
-
-part_takes : (words : List ℕ) (part : Part) → part_of words ≡ Some part → IsPart part × (words ≡ part_text part)
-unfolding part_of
-part_takes words part e =
-    bind_some (cut_at 32 words) _ part e λ cut here last.
-    let p = part_by_takes cut.0 cut.1 part last in
-    (p.0, cut_takes 32 words cut.0 cut.1 here ∙ p.1)
-
-do_takes : (words : List ℕ) (part : Part) → do_of words ≡ Some part → IsPart part × (words ≡ codes "do " ++ part_text part)
+do_takes : (words parts : List ℕ) → do_of words ≡ Some parts → words ≡ codes "do " ++ parts
 unfolding do_of
-do_takes words part e =
-    bind_some (cut_at 32 words) _ part e λ cut here last.
-    let c = chosen (bytes_eq cut.0 (codes "do")) (part_of cut.1) part last in
-    let p = part_takes cut.1 part c.1 in
-    (p.0, cut_takes 32 words cut.0 cut.1 here ∙ ap (λ (t : List ℕ). t ++ 32 ∷ cut.1) (word_is cut.0 (codes "do") c.0) ∙ ap (λ (t : List ℕ). codes "do " ++ t) p.1)
+do_takes words parts e =
+    bind_some (cut_at 32 words) _ parts e λ cut here last.
+    let c = cond_some (bytes_eq cut.0 (codes "do")) cut.1 parts last in
+    cut_takes 32 words cut.0 cut.1 here ∙ ap (λ (t : List ℕ). t ++ 32 ∷ cut.1) (word_is cut.0 (codes "do") c.0) ∙ ap (λ (t : List ℕ). codes "do " ++ t) c.1
 
-command_part_takes : (session line : List ℕ) (part : Part) → command_part session line ≡ Some part → IsPart part × (line ≡ session ++ codes " do " ++ part_text part)
-unfolding command_part
-command_part_takes session line part e =
-    bind_some (cut_at 32 line) _ part e λ cut here last.
-    let c = chosen (bytes_eq cut.0 session) (do_of cut.1) part last in
-    let p = do_takes cut.1 part c.1 in (
-      p.0,
-      cut_takes 32 line cut.0 cut.1 here ∙ ap (λ (t : List ℕ). t ++ 32 ∷ cut.1) (word_is cut.0 session c.0)
-          ∙ ap (λ (t : List ℕ). session ++ 32 ∷ t) p.1 ∙ sym (append_assoc session (codes " do ") (part_text part)),
-    )
+command_words_takes : (session line words : List ℕ) → command_words session line ≡ Some words → line ≡ session ++ codes " do " ++ words
+unfolding command_words
+command_words_takes session line words e =
+    bind_some (cut_at 32 line) _ words e λ cut here last.
+    let c = chosen (bytes_eq cut.0 session) (do_of cut.1) words last in
+    cut_takes 32 line cut.0 cut.1 here
+    ∙ ap (λ (t : List ℕ). t ++ 32 ∷ cut.1) (word_is cut.0 session c.0)
+    ∙ ap (λ (t : List ℕ). session ++ 32 ∷ t) (do_takes cut.1 words c.1)
+    ∙ sym (append_assoc session (codes " do ") words)
+
+-- parts that are taken as a transaction are one
+by_error_takes : (error : Option TxnError) (parts transaction : List Part) → transaction_error parts ≡ error → transaction_by error parts ≡ Some transaction
+    → (transaction_error parts ≡ None) × (parts ≡ transaction)
+by_error_takes None parts transaction is e = (is, cc)
+by_error_takes (Some error) parts transaction is e = absurd cc
 
 -- a command that is read is in form, and its line is its text
 pub command_takes : (session line : List ℕ) (transaction : List Part) → command_of session line ≡ Some transaction → IsCommand transaction × (line ≡ command_text session transaction)
 command_takes session line transaction e =
-    bind_some (command_part session line) _ transaction e λ part here last.
-    let q : ◌≡◌ {A = List Part} (part ∷ []) transaction = cc in
-    subst (λ (t : List Part). IsCommand t × (line ≡ command_text session t)) q (command_part_takes session line part here)
+    bind_some (command_words session line) _ transaction e λ words here rest.
+    bind_some (parts_of words) _ transaction rest λ parts read last.
+    let p = parts_takes words parts read in
+    let t = by_error_takes (transaction_error parts) parts transaction refl last in
+    subst (λ (x : List Part). IsCommand x × (line ≡ command_text session x)) t.1
+    ((p.0, t.0), command_words_takes session line words here ∙ ap (λ (x : List ℕ). session ++ codes " do " ++ x) p.1)
 
 named_takes : (words session : List ℕ) → named_of words ≡ Some session → (is_session session ≡ true) × (words ≡ session ++ codes " g0")
 unfolding named_of

@@ -9,17 +9,15 @@ use Rattle.std.proofs.lemmas.List.{length-append, length-map, nil_from_length}
 use Rattle.std.proofs.lemmas.Slice.Eq.{bytes_eq-Decides}
 use Rattle.ov_base.specs.Word.{◌>>=◌, Reads}
 use Rattle.ov_base.specs.Split.{joined, lacks}
-use Rattle.ov_base.specs.Amount.{amount_text}
 use Rattle.ov_base.proofs.Readers.{reads_by_laws}
-use Rattle.ov_base.proofs.Keys.{key_again, key_lacks}
-use Rattle.ov_base.proofs.Amounts.{amount_again, amount_lacks}
 use Rattle.ov_base.proofs.Splits.{cut_again, lacks_appended, passing_lack}
 use Rattle.ov_base.proofs.Joins.{Lacks, lacks_each, split_joined, joined_ends}
 use Rattle.ov_base.proofs.Traverse.{all_of_again, all_of_texts}
 use Rattle.ov_functor.specs.declared.part.Part.{Part}
-use Rattle.ov_functor.specs.declared.part.Part.TheVariants.{Put, Get}
+use Rattle.ov_functor.specs.Words.{parts_text}
+use Rattle.ov_functor.proofs.PartWordsAgain.{parts_again, parts_lack}
 use Rattle.ov_top.specs.declared.script.FirstScript.{FirstScript}
-use Rattle.ov_top.specs.Script.{is_lower, is_name_byte, is_name_rest, is_session, part_text, command_text, session_text, script_text, IsPart, IsCommand, IsScript, most_commands, lines_of, part_of, do_of, command_part, command_of, named_of, session_of, script_lines, script_of}
+use Rattle.ov_top.specs.Script.{is_lower, is_name_byte, is_name_rest, is_session, command_text, session_text, script_text, IsCommand, IsScript, most_commands, lines_of, do_of, command_words, command_of, named_of, session_of, script_lines, script_of}
 use Rattle.ov_top.proofs.Scripts.{text_some, script_takes}
 
 -- ---- the words that a line is made of
@@ -41,26 +39,19 @@ same_word word = (bytes_eq-Decides word word).1 refl
 
 -- ---- a command
 
-part_again : (part : Part) → IsPart part → part_of (part_text part) ≡ Some part
-unfolding part_of
-part_again (Get key) h = rw (key_again key h) refl
-part_again (Put key amount) h = rw (cut_again 32 key (amount_text amount) (key_lacks 32 key refl h.0), key_again key h.0, amount_again amount h.1) refl
-
-do_again : (part : Part) → IsPart part → do_of (codes "do " ++ part_text part) ≡ Some part
+do_again : (parts : List ℕ) → do_of (codes "do " ++ parts) ≡ Some parts
 unfolding do_of
-do_again part h = part_again part h
+do_again parts = refl
 
-command_part_again : (session : List ℕ) (part : Part) → is_session session ≡ true → IsPart part → command_part session (session ++ (codes " do " ++ part_text part)) ≡ Some part
-unfolding command_part
-command_part_again session part named h =
-    rw (cut_again 32 session (codes "do " ++ part_text part) (session_lacks 32 session refl named), same_word session, do_again part h) refl
+command_words_again : (session parts : List ℕ) → is_session session ≡ true → command_words session (session ++ (codes " do " ++ parts)) ≡ Some parts
+unfolding command_words
+command_words_again session parts named = rw (cut_again 32 session (codes "do " ++ parts) (session_lacks 32 session refl named), same_word session, do_again parts) refl
 
 -- the line of a command is read as that command
 pub command_again : (session : List ℕ) → is_session session ≡ true → (transaction : List Part) → IsCommand transaction
     → command_of session (command_text session transaction) ≡ Some transaction
-command_again session named [] h = absurd h
-command_again session named (part ∷ []) h = rw (append_assoc session (codes " do ") (part_text part), command_part_again session part named h) refl
-command_again session named (part ∷ next ∷ others) h = absurd h
+command_again session named transaction h =
+    rw (append_assoc session (codes " do ") (parts_text transaction), command_words_again session (parts_text transaction) named, parts_again transaction h.0, h.1) refl
 
 -- ---- the line of the session
 
@@ -75,16 +66,10 @@ session_again session named = named_again session named
 
 -- ---- no line has a line feed in it
 
-part_lacks : (part : Part) → IsPart part → lacks 10 (part_text part) ≡ true
-part_lacks (Get key) h = key_lacks 10 key refl h
-part_lacks (Put key amount) h = lacks_appended 10 key (32 ∷ amount_text amount) (key_lacks 10 key refl h.0) (amount_lacks 10 amount (omega arith) h.1)
-
 command_lacks : (session : List ℕ) → is_session session ≡ true → (transaction : List Part) → IsCommand transaction → Lacks (λ b. eqb b 10) (command_text session transaction)
-command_lacks session named [] h = absurd h
-command_lacks session named (part ∷ []) h =
-    lacks_each 10 (command_text session (part ∷ []))
-    (lacks_appended 10 (session ++ codes " do ") (part_text part) (lacks_appended 10 session (codes " do ") (session_lacks 10 session refl named) refl) (part_lacks part h))
-command_lacks session named (part ∷ next ∷ others) h = absurd h
+command_lacks session named transaction h =
+    lacks_each 10 (command_text session transaction)
+    (lacks_appended 10 (session ++ codes " do ") (parts_text transaction) (lacks_appended 10 session (codes " do ") (session_lacks 10 session refl named) refl) (parts_lack transaction h.0))
 
 session_text_lacks : (session : List ℕ) → is_session session ≡ true → Lacks (λ b. eqb b 10) (session_text session)
 session_text_lacks session named = lacks_each 10 (session_text session) (lacks_appended 10 session (codes " g0") (session_lacks 10 session refl named) refl)

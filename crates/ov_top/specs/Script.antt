@@ -4,10 +4,10 @@ use Rattle.std.specs.List.{slice_split, flat_map, list_all, AllByRecursion}
 use Rattle.std.specs.Str.{bytes_eq}
 use Rattle.ov_base.specs.Word.{◌>>=◌}
 use Rattle.ov_base.specs.Split.{cut_at, all_of}
-use Rattle.ov_base.specs.Key.{IsKey, key_of}
-use Rattle.ov_base.specs.Amount.{IsAmount, amount_text, amount_of}
+use Rattle.ov_functor.specs.declared.error.TxnError.{TxnError}
 use Rattle.ov_functor.specs.declared.part.Part.{Part}
-use Rattle.ov_functor.specs.declared.part.Part.TheVariants.{Put, Get}
+use Rattle.ov_functor.specs.Transaction.{transaction_error}
+use Rattle.ov_functor.specs.Words.{IsParts, parts_text, parts_of}
 use Rattle.ov_top.specs.declared.script.FirstScript.{FirstScript}
 
 -- ---- the words of sessions
@@ -31,17 +31,6 @@ is_session (first ∷ others) = is_lower first && (is_name_rest others && not (b
 
 -- ---- the text of a script
 
--- the words of a part
-abbrev pub part_text : Part → List ℕ
-part_text (Put key amount) = codes "put " ++ key ++ 32 ∷ amount_text amount
-part_text (Get key) = codes "get " ++ key
-
--- the parts of a transaction, with ` ; ` between them
-abbrev pub parts_text : List Part → List ℕ
-parts_text [] = []
-parts_text (part ∷ []) = part_text part
-parts_text (part ∷ next ∷ others) = part_text part ++ codes " ; " ++ parts_text (next ∷ others)
-
 -- the line of a command
 abbrev pub command_text : List ℕ → List Part → List ℕ
 command_text session transaction = session ++ codes " do " ++ parts_text transaction
@@ -56,16 +45,9 @@ script_text script = if length script.session == 0 then [] else session_text scr
 
 -- ---- the scripts that have a text
 
--- the part is in form
-abbrev pub IsPart : Part → Type 0
-IsPart (Put key amount) = IsKey key × IsAmount amount
-IsPart (Get key) = IsKey key
-
--- a transaction of one part in form
+-- parts in form that are a transaction
 abbrev pub IsCommand : List Part → Type 0
-IsCommand [] = ⊥
-IsCommand (part ∷ []) = IsPart part
-IsCommand (part ∷ next ∷ others) = ⊥
+IsCommand parts = IsParts parts × (transaction_error parts ≡ None)
 
 -- the most commands of a script
 abbrev pub most_commands : ℕ
@@ -84,35 +66,30 @@ pub record IsScript (script : FirstScript) : Type 0 where
 abbrev pub lines_of : List ℕ → Option (List (List ℕ))
 lines_of text = if length text == 0 then Some [] else (if slice_index text (length text - 1) == 10 then Some (slice_split (λ b. b == 10) (take (length text - 1) text)) else None)
 
-abbrev pub get_of : List ℕ → Option Part
-get_of word = key_of word >>= λ key. Some (Get key)
+-- reading `do`, and what stands behind it
+unfoldable pub do_of : List ℕ → Option (List ℕ)
+do_of words = cut_at 32 words >>= λ cut. if bytes_eq cut.0 (codes "do") then Some cut.1 else None
 
-abbrev pub put_of : List ℕ → Option Part
-put_of words = do
-  cut ← cut_at 32 words
-  key ← key_of cut.0
-  amount ← amount_of cut.1
-  Some (Put key amount)
+-- reading the words of a command of this session, behind its `do`
+unfoldable pub command_words : List ℕ → List ℕ → Option (List ℕ)
+command_words session line = cut_at 32 line >>= λ cut. if bytes_eq cut.0 session then do_of cut.1 else None
 
--- a part behind its first word
-abbrev pub part_by : List ℕ → List ℕ → Option Part
-part_by word words = if bytes_eq word (codes "get") then get_of words else (if bytes_eq word (codes "put") then put_of words else None)
+-- the parts, where there is no reason why they are no transaction
+abbrev pub transaction_by : Option TxnError → List Part → Option (List Part)
+transaction_by None parts = Some parts
+transaction_by (Some error) parts = None
 
--- reading `put KEY AMOUNT` or `get KEY`
-unfoldable pub part_of : List ℕ → Option Part
-part_of words = cut_at 32 words >>= λ cut. part_by cut.0 cut.1
+-- the parts, where they are a transaction
+abbrev pub transaction_of : List Part → Option (List Part)
+transaction_of parts = transaction_by (transaction_error parts) parts
 
--- reading `do` and a part
-unfoldable pub do_of : List ℕ → Option Part
-do_of words = cut_at 32 words >>= λ cut. if bytes_eq cut.0 (codes "do") then part_of cut.1 else None
-
--- reading the part of a command of this session
-unfoldable pub command_part : List ℕ → List ℕ → Option Part
-command_part session line = cut_at 32 line >>= λ cut. if bytes_eq cut.0 session then do_of cut.1 else None
+-- reading the parts of a transaction
+abbrev pub transaction_text_of : List ℕ → Option (List Part)
+transaction_text_of words = parts_of words >>= transaction_of
 
 -- reading a command of this session
 abbrev pub command_of : List ℕ → List ℕ → Option (List Part)
-command_of session line = command_part session line >>= λ part. Some (part ∷ [])
+command_of session line = command_words session line >>= transaction_text_of
 
 -- reading a name and `g0`
 unfoldable pub named_of : List ℕ → Option (List ℕ)

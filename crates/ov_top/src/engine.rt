@@ -1,15 +1,18 @@
-//! The engine of this first stage: it executes the transactions of a script one at a time, over the newest
-//! item of each key.
-ghost use Rattle.std.specs.Prelude.{◌≡◌, ◌≤◌, [], ◌∷◌, ◌++◌, length, IfOk, OnOk, OnErr};
+//! The engine of this first stage: it executes the transactions of a script one at a time. It keeps the
+//! newest value of each key, which a functor gave when its transaction was begun, so that no chain of items
+//! is walked anew.
+ghost use Rattle.std.specs.Prelude.{◌≡◌, ◌≤◌, [], ◌∷◌, ◌++◌, length, map, IfOk, OnOk, OnErr};
 ghost use Rattle.ov_base.specs.Word.{AddsFront};
-ghost use Rattle.ov_functor.specs.Execution.{exec, reply_of};
-ghost use Rattle.ov_functor.specs.Functor.{functor_of};
-ghost use Rattle.ov_top.specs.Engine.{value_in, stored};
+ghost use Rattle.ov_functor.specs.Execution.{exec, reply_of, hold, moves_of, got, set};
+ghost use Rattle.ov_functor.specs.Functor.{reads, apply};
+ghost use Rattle.ov_functor.specs.Items.{set_all};
+ghost use Rattle.ov_functor.specs.Values.{valued};
+ghost use Rattle.ov_top.specs.Engine.{value_in};
 ghost use Rattle.ov_top.specs.Run.{entries_of, command_entries};
 
 use crate::story::FirstEntry;
 use ov_base::{Key, Memory, Plain, Sequence, Value, Version};
-use ov_functor::{Item, Part, Reply, Shown, Transaction};
+use ov_functor::{Functor, Item, Move, Part, Reply, Shown, Transaction, Valued, items_of};
 use std::alloc::Global;
 use std::collections::BTreeMap;
 
@@ -25,9 +28,9 @@ pub(crate) fn execute(
     ensures ok { OnOk result (entries.new ≡ entries.old ++ entries_of script.now) }
     ensures front { OnErr result (AddsFront entries.old entries.new (entries_of script.now)) }
 {
-    let mut items = BTreeMap::new(alloc);
+    let mut newest = BTreeMap::new(alloc);
     for (index, transaction) in script.iter().enumerate() {
-        execute_one(alloc, index as u32 + 1, transaction, &mut items, entries)?;
+        execute_one(alloc, index as u32 + 1, transaction, &mut newest, entries)?;
     }
     Ok(())
 }
@@ -37,17 +40,18 @@ fn execute_one(
     alloc: Global,
     seq: u32,
     transaction: &Transaction,
-    items: &mut BTreeMap<Key, Item>,
+    newest: &mut BTreeMap<Key, Value>,
     entries: &mut Sequence<FirstEntry>,
 ) -> Result<(), Memory>
     requires { seq ≤ 4000 }
-    ensures entries { OnOk result (entries.new ≡ entries.old ++ command_entries seq (value_in items.old) transaction.now) }
-    ensures items { OnOk result (value_in items.new ≡ exec (value_in items.old) transaction.now) }
-    ensures front { OnErr result (AddsFront entries.old entries.new (command_entries seq (value_in items.old) transaction.now)) }
+    ensures entries { OnOk result (entries.new ≡ entries.old ++ command_entries seq (value_in newest.old) transaction.now) }
+    ensures newest { OnOk result (value_in newest.new ≡ exec (value_in newest.old) transaction.now) }
+    ensures front { OnErr result (AddsFront entries.old entries.new (command_entries seq (value_in newest.old) transaction.now)) }
 {
     let version = Version::new(u64::from(seq), 0).unwrap();
     let begun = transaction.copy()?;
-    let reply = reply_at(alloc, version, transaction, items)?;
+    let reply = reply_on(alloc, version, transaction, newest)?;
+    store(alloc, version, transaction, newest)?;
     entries.push(FirstEntry::Began {
         seq,
         version,
@@ -56,66 +60,146 @@ fn execute_one(
     entries.push(FirstEntry::Replied { seq, reply })
 }
 
-/// The reply of a transaction at this version, which is above those of all items; what it writes becomes
-/// items.
-fn reply_at(
+/// The reply of a transaction at this version, which is above those of all items.
+fn reply_on(
     alloc: Global,
     version: Version,
     transaction: &Transaction,
-    items: &mut BTreeMap<Key, Item>,
+    newest: &BTreeMap<Key, Value>,
 ) -> Result<Reply, Memory>
-    ensures reply { IfOk result (λ r. r ≡ reply_of (value_in items.old) version transaction.now) }
-    ensures items { OnOk result (value_in items.new ≡ exec (value_in items.old) transaction.now) }
+    ensures { IfOk result (λ r. r ≡ reply_of (value_in newest.now) version transaction.now) }
+{
+    let gets = gets_of(alloc, transaction.parts(), newest)?;
+    if moves_hold(transaction.parts(), newest) {
+        Ok(Reply::Done { version, gets })
+    } else {
+        Ok(Reply::Aborted { version, gets })
+    }
+}
+
+/// What the gets among the parts show.
+fn gets_of(
+    alloc: Global,
+    parts: &[Part],
+    newest: &BTreeMap<Key, Value>,
+) -> Result<Sequence<Shown>, Memory>
+    ensures { IfOk result (λ gets. gets ≡ got (value_in newest.now) parts.now) }
 {
     let mut gets = Sequence::new(alloc);
-    match only_part(transaction) {
-        Part::Get { key } => {
+    for part in parts {
+        if let Part::Get { key } = part {
             gets.push(Shown {
                 key: *key,
-                value: value_of(items, key),
+                value: value_of(newest, key),
             })?;
-            Ok(Reply::Done { version, gets })
-        }
-        Part::Put { key, .. } => {
-            store(version, *key, transaction, items)?;
-            Ok(Reply::Done { version, gets })
         }
     }
+    Ok(gets)
 }
 
-/// The one part of the transaction.
-fn only_part(transaction: &Transaction) -> &Part
-    ensures { transaction.now ≡ result.now ∷ [] }
+/// Whether all moves among the parts hold.
+fn moves_hold(parts: &[Part], newest: &BTreeMap<Key, Value>) -> bool
+    ensures { result ≡ hold (value_in newest.now) (moves_of parts.now) }
 {
-    &transaction.parts()[0]
+    for part in parts {
+        if let Part::Move { from, to, amount } = part {
+            let one = Move {
+                from: *from,
+                to: *to,
+                amount: *amount,
+            };
+            if !one.holds(value_of(newest, from), value_of(newest, to)) {
+                return false;
+            }
+        }
+    }
+    true
 }
 
-/// The value of a key by its newest item.
-fn value_of(items: &BTreeMap<Key, Item>, key: &Key) -> Value
-    ensures { result ≡ value_in items.now key.now }
+/// The newest value of a key, absent where it has none.
+fn value_of(newest: &BTreeMap<Key, Value>, key: &Key) -> Value
+    ensures { result ≡ value_in newest.now key.now }
 {
-    match items.get(key) {
+    match newest.get(key) {
         None => Value::Absent,
-        Some(item) => item.functor.apply(&[]),
+        Some(value) => *value,
     }
 }
 
-/// Makes the transaction's functor for the key its newest item, where the key is written.
+/// Gives each key that the transaction writes the value of its functor.
 fn store(
+    alloc: Global,
     version: Version,
-    key: Key,
     transaction: &Transaction,
-    items: &mut BTreeMap<Key, Item>,
+    newest: &mut BTreeMap<Key, Value>,
 ) -> Result<(), Memory>
-    ensures { OnOk result (value_in items.new ≡ stored key (functor_of transaction.now key) (value_in items.old)) }
+    ensures { OnOk result (value_in newest.new ≡ exec (value_in newest.old) transaction.now) }
 {
-    if let Some(functor) = transaction.functor_for(key)? {
-        let item = Item {
-            version,
-            key,
-            functor,
-        };
-        items.insert(key, item)?;
+    let items = items_of(alloc, version, transaction)?;
+    let values = values_of(alloc, items.as_slice(), newest)?;
+    store_all(values.as_slice(), newest)
+}
+
+/// The values of the items, each that of its functor.
+fn values_of(
+    alloc: Global,
+    items: &[Item],
+    newest: &BTreeMap<Key, Value>,
+) -> Result<Sequence<Valued>, Memory>
+    ensures { IfOk result (λ values. values ≡ map (valued (value_in newest.now)) items.now) }
+{
+    let mut values = Sequence::new(alloc);
+    for item in items {
+        let value = evaluate(alloc, &item.functor, newest)?;
+        values.push(Valued {
+            version: item.version,
+            key: item.key,
+            value,
+        })?;
     }
+    Ok(values)
+}
+
+/// The value that the functor gives.
+fn evaluate(
+    alloc: Global,
+    functor: &Functor,
+    newest: &BTreeMap<Key, Value>,
+) -> Result<Value, Memory>
+    ensures { IfOk result (λ value. value ≡ apply functor.now (map (value_in newest.now) (reads functor.now))) }
+{
+    let inputs = inputs_of(alloc, functor, newest)?;
+    Ok(functor.apply(inputs.as_slice()))
+}
+
+/// The values of the keys that the functor reads.
+fn inputs_of(
+    alloc: Global,
+    functor: &Functor,
+    newest: &BTreeMap<Key, Value>,
+) -> Result<Sequence<Value>, Memory>
+    ensures { IfOk result (λ inputs. inputs ≡ map (value_in newest.now) (reads functor.now)) }
+{
+    let mut inputs = Sequence::new(alloc);
+    for place in 0..functor.read_count() {
+        inputs.push(value_of(newest, &functor.read_key(place)))?;
+    }
+    Ok(inputs)
+}
+
+/// Makes these the newest values of their keys.
+fn store_all(values: &[Valued], newest: &mut BTreeMap<Key, Value>) -> Result<(), Memory>
+    ensures { OnOk result (value_in newest.new ≡ set_all (value_in newest.old) values.now) }
+{
+    for one in values {
+        store_one(one.key, one.value, newest)?;
+    }
+    Ok(())
+}
+
+fn store_one(key: Key, value: Value, newest: &mut BTreeMap<Key, Value>) -> Result<(), Memory>
+    ensures { OnOk result (value_in newest.new ≡ set key value (value_in newest.old)) }
+{
+    newest.insert(key, value)?;
     Ok(())
 }

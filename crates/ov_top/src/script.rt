@@ -1,13 +1,14 @@
 //! Scripts of this first form: no line, or the line of one session at gateway 0 and then its commands, each
-//! of one part (docs/FORMATS.md, Script).
-ghost use Rattle.std.specs.Prelude.{◌≡◌, [], ◌∷◌, map, IfOk};
+//! a transaction (docs/FORMATS.md, Script).
+ghost use Rattle.std.specs.Prelude.{◌≡◌, true, map, IfOk};
+ghost use Rattle.ov_functor.specs.Transaction.{is_positive};
 ghost use Rattle.ov_base.specs.Split.{all_of};
 ghost use Rattle.std.specs.List.{list_all};
 ghost use Rattle.std.specs.Option.{option_map};
-ghost use Rattle.ov_top.specs.Script.{script_of, script_lines, lines_of, commands_of, command_of, command_part, do_of, part_of, part_by, get_of, put_of, session_of, named_of, is_session, is_name_rest, is_name_byte, is_lower};
+ghost use Rattle.ov_top.specs.Script.{script_of, script_lines, lines_of, commands_of, command_of, command_words, do_of, transaction_of, transaction_text_of, session_of, named_of, is_session, is_name_rest, is_name_byte, is_lower};
 
-use ov_base::{Amount, Key, Memory, Sequence, parts_at, split_at_byte};
-use ov_functor::{Part, Transaction};
+use ov_base::{Memory, Sequence, parts_at, split_at_byte};
+use ov_functor::{Part, Transaction, parse_parts};
 use std::alloc::Global;
 
 /// The most commands of a script.
@@ -111,26 +112,15 @@ fn transactions_of(
 fn parse_command(alloc: Global, session: &[u8], line: &[u8]) -> Result<Option<Transaction>, Memory>
     ensures { IfOk result (λ o. o ≡ command_of session.now line.now) }
 {
-    match parse_part_of(session, line) {
+    match parse_command_words(session, line) {
         None => Ok(None),
-        Some(part) => Ok(Some(of_one_part(alloc, part)?)),
+        Some(words) => parse_transaction(alloc, words),
     }
 }
 
-fn of_one_part(alloc: Global, part: Part) -> Result<Transaction, Memory>
-    ensures { IfOk result (λ t. t ≡ part ∷ []) }
-{
-    let mut parts = Vec::new(alloc);
-    parts.push(part)?;
-    match Transaction::new(parts) {
-        Ok(transaction) => Ok(transaction),
-        Err(_) => Err(Memory),
-    }
-}
-
-#[tactic(auto, unfolding(crate::specs::Script::command_part))]
-fn parse_part_of(session: &[u8], line: &[u8]) -> Option<Part>
-    ensures { result ≡ command_part session.now line.now }
+#[tactic(auto, unfolding(crate::specs::Script::command_words))]
+fn parse_command_words<'a>(session: &[u8], line: &'a [u8]) -> Option<&'a [u8]>
+    ensures { option_map (λ x. x.now) result ≡ command_words session.now line.now }
 {
     let (name, words) = split_at_byte(line, b' ')?;
     if name == session {
@@ -141,51 +131,36 @@ fn parse_part_of(session: &[u8], line: &[u8]) -> Option<Part>
 }
 
 #[tactic(auto, unfolding(crate::specs::Script::do_of))]
-fn parse_do(words: &[u8]) -> Option<Part>
-    ensures { result ≡ do_of words.now }
+fn parse_do(words: &[u8]) -> Option<&[u8]>
+    ensures { option_map (λ x. x.now) result ≡ do_of words.now }
 {
-    let (word, part) = split_at_byte(words, b' ')?;
+    let (word, parts) = split_at_byte(words, b' ')?;
     if word == b"do".as_slice() {
-        parse_part(part)
+        Some(parts)
     } else {
         None
     }
 }
 
-#[tactic(auto, unfolding(crate::specs::Script::part_of))]
-fn parse_part(words: &[u8]) -> Option<Part>
-    ensures { result ≡ part_of words.now }
+/// The transaction that the bytes spell. None exactly where they spell none; only want of memory is an error.
+pub(crate) fn parse_transaction(alloc: Global, words: &[u8]) -> Result<Option<Transaction>, Memory>
+    ensures { IfOk result (λ o. o ≡ transaction_text_of words.now) }
 {
-    let (word, others) = split_at_byte(words, b' ')?;
-    parse_part_by(word, others)
-}
-
-fn parse_part_by(word: &[u8], words: &[u8]) -> Option<Part>
-    ensures { result ≡ part_by word.now words.now }
-{
-    if word == b"get".as_slice() {
-        parse_get(words)
-    } else if word == b"put".as_slice() {
-        parse_put(words)
-    } else {
-        None
+    match parse_parts(alloc, words)? {
+        None => Ok(None),
+        Some(parts) => Ok(made_of(parts)),
     }
 }
 
-fn parse_get(word: &[u8]) -> Option<Part>
-    ensures { result ≡ get_of word.now }
+/// The transaction of these parts, where they are one.
+fn made_of(parts: Vec<Part>) -> Option<Transaction>
+    requires { list_all is_positive parts.items ≡ true }
+    ensures { result ≡ transaction_of parts.items }
 {
-    let key = Key::from_bytes(word)?;
-    Some(Part::Get { key })
-}
-
-fn parse_put(words: &[u8]) -> Option<Part>
-    ensures { result ≡ put_of words.now }
-{
-    let (key, amount) = split_at_byte(words, b' ')?;
-    let key = Key::from_bytes(key)?;
-    let amount = Amount::parse(amount)?;
-    Some(Part::Put { key, amount })
+    match Transaction::new(parts) {
+        Ok(transaction) => Some(transaction),
+        Err(_) => None,
+    }
 }
 
 #[tactic(auto, unfolding(crate::specs::Script::session_of))]

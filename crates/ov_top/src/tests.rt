@@ -2,3 +2,4 @@
 
 mod calls;
 mod step;
+mod transactions;

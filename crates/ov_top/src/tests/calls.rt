@@ -3,8 +3,7 @@ use ov_base::{
     Amount, Key, Plain, Sequence, Value, Version, parse_number, parts_at, print_mark, print_number,
     push_within, same, split_at_byte,
 };
-use ov_functor::{Effect, Item, Part, Reply, Shown, Transaction};
-use std::alloc::Global;
+use ov_functor::{Reply, Shown};
 use std::test::Fail;
 
 fn key_of(word: &str) -> Result<Key, Fail> {
@@ -130,34 +129,6 @@ fn lists_are_copied_and_compared(rt: HostRuntime) -> Result<(), Fail> {
     list.push(key_of("z")?)?;
     assert!(rt; copied != list);
     assert_eq!(rt; list.into_vec().len(), 3);
-    Ok(())
-}
-
-fn of_part(alloc: Global, part: Part) -> Result<Transaction, Fail> {
-    let mut parts = Vec::new(alloc);
-    parts.push(part)?;
-    let transaction = Transaction::new(parts).ok().ok_or("a transaction")?;
-    Ok(transaction)
-}
-
-#[test]
-fn a_written_key_has_a_functor(rt: HostRuntime) -> Result<(), Fail> {
-    let (x, y) = (key_of("x")?, key_of("y")?);
-    let amount = amount_of(5)?;
-    let put = of_part(rt.alloc(), Part::Put { key: x, amount })?;
-    let functor = put.functor_for(x)?.ok_or("a functor")?;
-    assert_eq!(rt; functor.apply(&[]), Value::Number(amount));
-    assert!(rt; put.functor_for(y)?.is_none());
-    assert!(rt; put.copy()? == put);
-    let got = of_part(rt.alloc(), Part::Get { key: x })?;
-    assert!(rt; got.functor_for(x)?.is_none());
-    let item = Item {
-        version: Version::new(1, 0).ok_or("a version")?,
-        key: x,
-        functor,
-    };
-    assert!(rt; item.copy()? == item);
-    assert!(rt; Effect::Put(amount).copy()? == Effect::Put(amount));
     Ok(())
 }
 

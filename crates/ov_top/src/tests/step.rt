@@ -4,6 +4,7 @@ use ov_base::{Amount, Key, Sequence, Value, Version};
 use ov_functor::{Reply, Shown};
 use ov_io::{MemoryShelf, MemorySink, NamedFile, SureShelf, SureSink};
 use std::alloc::{AllocError, Global};
+use std::process::Abort;
 use std::test::Fail;
 
 /// One centre, one partition and one gateway.
@@ -75,30 +76,78 @@ fn run(
     })
 }
 
-#[test]
-fn scripts_are_executed_and_reported(rt: HostRuntime) -> Result<(), Fail> {
-    let cases = [
-        ("one put and one get", SCRIPT, REPORT),
-        ("no line", "", ""),
-        ("a session without a command", "session a g0\n", ""),
-        (
-            "gets before and after puts",
-            "session a g0\na do get x\na do put x 5\na do put x 6\na do get x\n",
-            "a 1 done 1.0 x=absent\na 2 done 2.0\na 3 done 3.0\na 4 done 4.0 x=6\n",
-        ),
-        (
-            "keys apart, and the bounds of amounts",
-            "session s1 g0\ns1 do put A_1 -1000000000000000000\ns1 do put b 1000000000000000000\ns1 do get A_1\ns1 do get b\ns1 do get B\n",
-            "s1 1 done 1.0\ns1 2 done 2.0\ns1 3 done 3.0 A_1=-1000000000000000000\ns1 4 done 4.0 b=1000000000000000000\ns1 5 done 5.0 B=absent\n",
-        ),
-    ];
-    for (name, script, report) in cases {
-        let files = [("a", TOPOLOGY), ("b", script), ("c", "")];
-        let outcome = run(rt.alloc(), &WORDS, &files, &[], &[])?;
-        assert_eq!(rt; outcome.status, 0, "{name}");
-        assert_eq!(rt; outcome.written.as_str(), report, "{name}");
-    }
+/// Runs a script whose report is expected.
+fn check_report(rt: &impl Abort, alloc: Global, script: &str, report: &str) -> Result<(), Fail> {
+    let files = [("a", TOPOLOGY), ("b", script), ("c", "")];
+    let outcome = run(alloc, &WORDS, &files, &[], &[])?;
+    assert_eq!(rt; outcome.status, 0, "{script}");
+    assert_eq!(rt; outcome.written.as_str(), report, "{script}");
     Ok(())
+}
+
+#[test]
+fn a_put_and_a_get_are_reported(rt: HostRuntime) -> Result<(), Fail> {
+    check_report(&rt, rt.alloc(), SCRIPT, REPORT)?;
+    check_report(&rt, rt.alloc(), "", "")?;
+    check_report(&rt, rt.alloc(), "session a g0\n", "")
+}
+
+#[test]
+fn gets_show_the_newest_value_of_their_key(rt: HostRuntime) -> Result<(), Fail> {
+    check_report(
+        &rt,
+        rt.alloc(),
+        "session a g0\na do get x\na do put x 5\na do put x 6\na do get x\n",
+        "a 1 done 1.0 x=absent\na 2 done 2.0\na 3 done 3.0\na 4 done 4.0 x=6\n",
+    )?;
+    check_report(
+        &rt,
+        rt.alloc(),
+        "session s1 g0\ns1 do put A_1 -1000000000000000000\ns1 do get A_1\ns1 do get B\n",
+        "s1 1 done 1.0\ns1 2 done 2.0 A_1=-1000000000000000000\ns1 3 done 3.0 B=absent\n",
+    )
+}
+
+#[test]
+fn a_get_beside_an_add_shows_the_value_before_it(rt: HostRuntime) -> Result<(), Fail> {
+    check_report(
+        &rt,
+        rt.alloc(),
+        "session a g0\na do get x ; add x 3\na do get x\n",
+        "a 1 done 1.0 x=absent\na 2 done 2.0 x=3\n",
+    )
+}
+
+#[test]
+fn a_move_holds_or_aborts_the_whole_transaction(rt: HostRuntime) -> Result<(), Fail> {
+    check_report(
+        &rt,
+        rt.alloc(),
+        "session s g0\ns do put a 10\ns do move a b 10\ns do get a ; get b\n",
+        "s 1 done 1.0\ns 2 done 2.0\ns 3 done 3.0 a=0 b=10\n",
+    )?;
+    check_report(
+        &rt,
+        rt.alloc(),
+        "session s g0\ns do put a 10\ns do move a b 11 ; put y 1\ns do get a ; get b ; get y\n",
+        "s 1 done 1.0\ns 2 aborted 2.0\ns 3 done 3.0 a=10 b=absent y=absent\n",
+    )
+}
+
+#[test]
+fn amounts_stop_at_the_ends_of_their_range(rt: HostRuntime) -> Result<(), Fail> {
+    check_report(
+        &rt,
+        rt.alloc(),
+        "session s g0\ns do put a 5 ; put b 1000000000000000000\ns do move a b 1\ns do add b 1\ns do get a ; get b\n",
+        "s 1 done 1.0\ns 2 aborted 2.0\ns 3 done 3.0\ns 4 done 4.0 a=5 b=1000000000000000000\n",
+    )?;
+    check_report(
+        &rt,
+        rt.alloc(),
+        "session s g0\ns do least c 4 ; greatest d -2 ; add e -1000000000000000000\ns do add e -1 ; del c\ns do get c ; get d ; get e\n",
+        "s 1 done 1.0\ns 2 done 2.0\ns 3 done 3.0 c=absent d=-2 e=-1000000000000000000\n",
+    )
 }
 
 #[test]
@@ -146,48 +195,103 @@ fn words_off_the_form_are_usage(rt: HostRuntime) -> Result<(), Fail> {
     Ok(())
 }
 
+/// Runs three texts of which one is not built.
+fn check_not_built(
+    rt: &impl Abort,
+    alloc: Global,
+    texts: (&str, &str, &str),
+    status: u8,
+    line: &str,
+) -> Result<(), Fail> {
+    let (topology, script, schedule) = texts;
+    let files = [("a", topology), ("b", script), ("c", schedule)];
+    let outcome = run(alloc, &WORDS, &files, &[], &[])?;
+    assert_eq!(rt; outcome.status, status, "{texts:?}");
+    assert_eq!(rt; outcome.written.as_str(), line, "{texts:?}");
+    assert!(rt; outcome.story.entries.is_empty());
+    Ok(())
+}
+
 #[test]
-fn files_off_the_form_are_not_built(rt: HostRuntime) -> Result<(), Fail> {
+fn topologies_and_schedules_off_the_form_are_not_built(rt: HostRuntime) -> Result<(), Fail> {
     let two_gateways = "centres = 1\npartitions = 1\ngateways = [0, 0]\nwrite = 1\nread = 1\n";
-    let topology = (3, "topology: not built\n");
-    let script = (4, "script: not built\n");
-    let schedule = (5, "schedule: not built\n");
-    let cases = [
-        (two_gateways, SCRIPT, "", topology),
-        ("", SCRIPT, "", topology),
-        (TOPOLOGY, "session a g1\n", "", script),
-        (TOPOLOGY, "session session g0\n", "", script),
-        (TOPOLOGY, "session A g0\n", "", script),
-        (TOPOLOGY, "session abcdefghijklmnopq g0\n", "", script),
-        (TOPOLOGY, "a do get x\n", "", script),
-        (TOPOLOGY, "session a g0\nb do get x\n", "", script),
-        (TOPOLOGY, "session a g0\na do get x", "", script),
-        (TOPOLOGY, "session a g0\na  do get x\n", "", script),
-        (TOPOLOGY, "session a g0\na do get x \n", "", script),
-        (TOPOLOGY, "session a g0\r\n", "", script),
-        (TOPOLOGY, "session a g0\na do put x -0\n", "", script),
-        (TOPOLOGY, "session a g0\na do put x 05\n", "", script),
-        (
-            TOPOLOGY,
-            "session a g0\na do put x 1000000000000000001\n",
-            "",
-            script,
-        ),
-        (TOPOLOGY, "session a g0\na do put x-y 1\n", "", script),
-        (TOPOLOGY, "session a g0\na do get x ; get y\n", "", script),
-        (TOPOLOGY, "session a g0\na do add x 1\n", "", script),
-        (TOPOLOGY, "session a g0\n\n", "", script),
-        (TOPOLOGY, "session a g0\nsession b g0\n", "", script),
-        (TOPOLOGY, "\n", "", script),
-        (TOPOLOGY, SCRIPT, "settle e0\n", schedule),
-        (TOPOLOGY, SCRIPT, "\n", schedule),
+    for topology in [two_gateways, ""] {
+        check_not_built(
+            &rt,
+            rt.alloc(),
+            (topology, SCRIPT, ""),
+            3,
+            "topology: not built\n",
+        )?;
+    }
+    for schedule in ["settle e0\n", "\n"] {
+        check_not_built(
+            &rt,
+            rt.alloc(),
+            (TOPOLOGY, SCRIPT, schedule),
+            5,
+            "schedule: not built\n",
+        )?;
+    }
+    Ok(())
+}
+
+#[test]
+fn scripts_off_the_form_are_not_built(rt: HostRuntime) -> Result<(), Fail> {
+    let scripts = [
+        "session a g1\n",
+        "session session g0\n",
+        "session A g0\n",
+        "session abcdefghijklmnopq g0\n",
+        "a do get x\n",
+        "session a g0\nb do get x\n",
+        "session a g0\na do get x",
+        "session a g0\r\n",
+        "session a g0\n\n",
+        "session a g0\nsession b g0\n",
+        "\n",
     ];
-    for (first, second, third, (status, text)) in cases {
-        let files = [("a", first), ("b", second), ("c", third)];
-        let outcome = run(rt.alloc(), &WORDS, &files, &[], &[])?;
-        assert_eq!(rt; outcome.status, status, "{second:?}");
-        assert_eq!(rt; outcome.written.as_str(), text, "{second:?}");
-        assert!(rt; outcome.story.entries.is_empty());
+    for script in scripts {
+        check_not_built(
+            &rt,
+            rt.alloc(),
+            (TOPOLOGY, script, ""),
+            4,
+            "script: not built\n",
+        )?;
+    }
+    Ok(())
+}
+
+#[test]
+fn parts_that_are_no_transaction_are_not_built(rt: HostRuntime) -> Result<(), Fail> {
+    let commands = [
+        "a do ",
+        "a  do get x",
+        "a do get x ",
+        "a do put x -0",
+        "a do put x 05",
+        "a do put x 1000000000000000001",
+        "a do put x-y 1",
+        "a do get x; get y",
+        "a do get x ; ",
+        "a do move x y 0",
+        "a do move x x 1",
+        "a do put x 1 ; add x 1",
+        "a do get x ; get x",
+        "a do get a ; get b ; get c ; get d ; get e ; get f ; get g ; get h ; get i",
+    ];
+    for command in commands {
+        let mut script = String::from_str(rt.alloc(), "session a g0\n")?;
+        script.push_str(command)?;
+        script.push_str("\n")?;
+        check_not_built(
+            &rt,
+            rt.alloc(),
+            (TOPOLOGY, script.as_str(), ""),
+            4,
+            "script: not built\n",
+        )?;
     }
     Ok(())
 }

@@ -11,7 +11,7 @@ returns-in_err-execute_one-clause-front c =
 pub loop-index-preserved : goal.loop-index-preserved
 loop-index-preserved c = record {
   map = executed_next c.args.script.now c.loop-index.index c.index-script-index.result _ c.loop-index-test.true c.index-script-index.is
-      (rw c.loop-index.invariant.map at c.in_ok-execute_one.ensures.items);
+      (rw c.loop-index.invariant.map at c.in_ok-execute_one.ensures.newest);
   entries = entries_next c.args.script.now c.loop-index.index c.index-script-index.result c.args.entries.now c.loop-index.entries _
       c.loop-index-test.true c.index-script-index.is c.loop-index.invariant.entries (rw c.loop-index.invariant.map at c.in_ok-execute_one.ensures.entries);
 }

@@ -6,6 +6,6 @@ use Rattle.ov_top.proofs.engine.execute.Given as goal
 
 abbrev pub invariant-loop-index : goal.invariant-loop-index
 invariant-loop-index l = record {
-  map : value_in l.items ≡ executed empty (take l.index l.script);
+  map : value_in l.newest ≡ executed empty (take l.index l.script);
   entries : l.entries ≡ l.initial.entries ++ entries_of (take l.index l.script);
 }
