@@ -1,7 +1,11 @@
-//! The serial executor on worked examples, and against the functors, which decide each key alone.
+//! The serial executor on worked examples, and against the functors, which decide each key alone; and the
+//! calls of the crates below, each once where memory suffices.
 ghost use Rattle.std.specs.Prelude.{◌≡◌};
 ghost use Rattle.std.specs.List.{list_all};
 ghost use Rattle.ov_functor.specs.Transaction.{is_positive};
+
+mod calls;
+mod transactions;
 
 use crate::{Serial, are_distinct, run_serial};
 use ov_base::{Amount, Key, Value, Version, parts_at};
@@ -73,7 +77,7 @@ fn are_positive(parts: &[Part]) -> bool
 }
 
 /// The transaction that the text spells.
-fn transaction_of(alloc: Global, text: &[u8]) -> Result<Transaction, Fail> {
+pub(crate) fn transaction_of(alloc: Global, text: &[u8]) -> Result<Transaction, Fail> {
     let parts = parse_parts(alloc, text)?.ok_or("parts")?;
     let made = if are_positive(parts.as_slice()) {
         Transaction::new(parts).ok()

@@ -1,18 +1,18 @@
 -- How the reading half ends, file by file in the order of work.
-use Rattle.std.proofs.Common.{◌≡◌, ◌≢◌, ℕ, ◌≤◌, true, false, eqb, List, [], length, Option, Some, None, Result, Err, refl, ◌∙◌, arith, inl, inr}
+use Rattle.std.proofs.Common.{◌≡◌, ◌≢◌, ℕ, ◌≤◌, List, [], length, Option, Some, None, Result, Ok, Err, refl, ◌∙◌, arith, inl, inr}
 use Rattle.std.specs.Prelude.{unwrap_or}
-use Rattle.std.specs.Str.{bytes_eq}
 use Rattle.std.proofs.lemmas.Bool.{lt-ltb, le-ltb, le-leb}
 use Rattle.ov_io.specs.Causes.{NoneFell, SameTold, Rose, Agrees, LongerThan}
 use Rattle.ov_top.specs.declared.refusal.FileWord.{FileWord}
 use Rattle.ov_top.specs.declared.refusal.FileWord.TheVariants as word
 use Rattle.ov_top.specs.declared.refusal.Refusal.{Refusal}
 use Rattle.ov_top.specs.declared.refusal.Refusal.TheVariants as why
-use Rattle.ov_top.specs.declared.script.FirstScript.{FirstScript}
+use Rattle.ov_top.specs.declared.accept.FirstScript.{FirstScript}
+use Rattle.ov_top.specs.declared.refusal.FormFault.{FormFault}
 use Rattle.ov_top.specs.Names.{Names}
-use Rattle.ov_top.specs.Script.{script_of}
-use Rattle.ov_top.specs.Ending.{Files, first_topology, limit, refused, done, read_fault_text, too_long_text, not_built_text}
-use Rattle.ov_top.specs.Causes.{Told, Counts, Agree, Comes, Faulted, Meant, RefusesFile, end_of}
+use Rattle.ov_top.specs.Form.{accept_topology, accept_script, accept_schedule, form_status, form_text}
+use Rattle.ov_top.specs.Ending.{Files, limit, refused, done, read_fault_text, too_long_text}
+use Rattle.ov_top.specs.Causes.{Told, Counts, Agree, Comes, Faulted, Meant, RefusesFile, RefusesForm, end_of}
 
 -- bytes that agree with what is told, whatever that is
 pub some_bytes : Option (List ℕ) → List ℕ
@@ -26,11 +26,11 @@ some_agree (Some bytes) = refl
 
 -- ---- the files that were read
 
--- The topology was read, and is of the form.
+-- The topology was read, and is accepted.
 pub record TopologyRead (told : Told) (names : Names) (topology : List ℕ) : Type 0 where
   pub agrees : Agrees (told names.topology) topology
   pub short : length topology ≤ limit
-  pub form : bytes_eq topology first_topology ≡ true
+  pub form : accept_topology topology ≡ Ok tt
 
 -- The bytes of the script were read after the topology.
 pub record BytesRead (told : Told) (names : Names) (topology bytes : List ℕ) : Type 0 where
@@ -38,10 +38,10 @@ pub record BytesRead (told : Told) (names : Names) (topology bytes : List ℕ) :
   pub agrees : Agrees (told names.script) bytes
   pub short : length bytes ≤ limit
 
--- The bytes of the schedule were read after the script's, which are those of this script.
+-- The bytes of the schedule were read after the script's, of which this script is served.
 pub record ScheduleRead (told : Told) (names : Names) (topology bytes schedule : List ℕ) (script : FirstScript) : Type 0 where
   pub before : BytesRead told names topology bytes
-  pub form : script_of bytes ≡ Some script
+  pub form : accept_script bytes ≡ Ok script
   pub agrees : Agrees (told names.schedule) schedule
   pub short : length schedule ≤ limit
 
@@ -72,10 +72,10 @@ comes_topology_long told names h = record {
   is = rw (lt-ltb limit (length h.0) h.2) refl;
 }
 
--- a topology off the form
-pub comes_topology_off : (told : Told) (names : Names) (topology : List ℕ) → Agrees (told names.topology) topology → length topology ≤ limit
-    → bytes_eq topology first_topology ≡ false → Comes told names (refused 3 (not_built_text word.Topology) [])
-comes_topology_off told names topology agrees short off = record {
+-- a topology that is refused
+pub comes_topology_off : (told : Told) (names : Names) (topology : List ℕ) (fault : FormFault) → Agrees (told names.topology) topology → length topology ≤ limit
+    → accept_topology topology ≡ Err fault → Comes told names (refused (form_status fault) (form_text fault) [])
+comes_topology_off told names topology fault agrees short off = record {
   files = first_files told names topology;
   agree = first_agree told names topology agrees;
   is = rw (le-ltb limit (length topology) short, off) refl;
@@ -89,27 +89,27 @@ comes_script_long told names topology t h = record {
   is = rw (le-ltb limit (length topology) t.short, t.form, lt-ltb limit (length h.0) h.2) refl;
 }
 
--- bytes that are no script
-pub comes_script_off : (told : Told) (names : Names) (topology bytes : List ℕ) → BytesRead told names topology bytes → script_of bytes ≡ None
-    → Comes told names (refused 4 (not_built_text word.Script) [])
-comes_script_off told names topology bytes b off = record {
+-- a script that is refused
+pub comes_script_off : (told : Told) (names : Names) (topology bytes : List ℕ) (fault : FormFault) → BytesRead told names topology bytes → accept_script bytes ≡ Err fault
+    → Comes told names (refused (form_status fault) (form_text fault) [])
+comes_script_off told names topology bytes fault b off = record {
   files = second_files told names topology bytes;
   agree = second_agree told names topology bytes b.before.agrees b.agrees;
   is = rw (le-ltb limit (length topology) b.before.short, b.before.form, le-ltb limit (length bytes) b.short, off) refl;
 }
 
 comes_schedule_long : (told : Told) (names : Names) (topology bytes : List ℕ) (script : FirstScript) → BytesRead told names topology bytes
-    → script_of bytes ≡ Some script → LongerThan limit (told names.schedule) → Comes told names (refused 10 (too_long_text names.schedule) script.transactions)
+    → accept_script bytes ≡ Ok script → LongerThan limit (told names.schedule) → Comes told names (refused 10 (too_long_text names.schedule) script.transactions)
 comes_schedule_long told names topology bytes script b form h = record {
   files = third_files topology bytes h.0;
   agree = record { topology = b.before.agrees; script = b.agrees; schedule = h.1 };
   is = rw (le-ltb limit (length topology) b.before.short, b.before.form, le-ltb limit (length bytes) b.short, form, lt-ltb limit (length h.0) h.2) refl;
 }
 
--- a schedule that is not empty
-pub comes_schedule_off : (told : Told) (names : Names) (topology bytes schedule : List ℕ) (script : FirstScript) → ScheduleRead told names topology bytes schedule script
-    → eqb (length schedule) 0 ≡ false → Comes told names (refused 5 (not_built_text word.Schedule) script.transactions)
-comes_schedule_off told names topology bytes schedule script s off = record {
+-- a schedule that is refused
+pub comes_schedule_off : (told : Told) (names : Names) (topology bytes schedule : List ℕ) (script : FirstScript) (fault : FormFault) → ScheduleRead told names topology bytes schedule script
+    → accept_schedule schedule ≡ Err fault → Comes told names (refused (form_status fault) (form_text fault) script.transactions)
+comes_schedule_off told names topology bytes schedule script fault s off = record {
   files = third_files topology bytes schedule;
   agree = record { topology = s.before.before.agrees; script = s.before.agrees; schedule = s.agrees };
   is = rw (
@@ -124,7 +124,7 @@ comes_schedule_off told names topology bytes schedule script s off = record {
 
 -- three files that are accepted
 pub comes_done : (told : Told) (names : Names) (topology bytes schedule : List ℕ) (script : FirstScript) → ScheduleRead told names topology bytes schedule script
-    → eqb (length schedule) 0 ≡ true → Comes told names (done script)
+    → accept_schedule schedule ≡ Ok tt → Comes told names (done script)
 comes_done told names topology bytes schedule script s none = record {
   files = third_files topology bytes schedule;
   agree = record { topology = s.before.before.agrees; script = s.before.agrees; schedule = s.agrees };
@@ -159,20 +159,20 @@ faulted_script told counts now names topology t rose = record {
   files = first_files told names topology;
   agree = first_agree told names topology t.agrees;
   script = [];
-  reached_is = rw (le-leb (length topology) limit t.short, t.form) refl;
+  reached_is = rw (t.form, le-leb (length topology) limit t.short) refl;
   rose = rose;
   is = refl;
 }
 
 faulted_schedule : (told : Told) (counts now : Counts) (names : Names) (topology bytes : List ℕ) (script : FirstScript) → BytesRead told names topology bytes
-    → script_of bytes ≡ Some script → Rose (counts names.schedule) (now names.schedule)
+    → accept_script bytes ≡ Ok script → Rose (counts names.schedule) (now names.schedule)
     → Faulted told counts now names (refused 7 (read_fault_text names.schedule) script.transactions)
 faulted_schedule told counts now names topology bytes script b form rose = record {
   word = word.Schedule;
   files = second_files told names topology bytes;
   agree = second_agree told names topology bytes b.before.agrees b.agrees;
   script = script.transactions;
-  reached_is = rw (le-leb (length topology) limit b.before.short, b.before.form, le-leb (length bytes) limit b.short, form) refl;
+  reached_is = rw (b.before.form, le-leb (length topology) limit b.before.short, form, le-leb (length bytes) limit b.short) refl;
   rose = rose;
   is = refl;
 }
@@ -180,7 +180,7 @@ faulted_schedule told counts now names topology bytes script b form rose = recor
 -- ---- files that were refused
 
 -- what the reading half answers where it refuses
-abbrev pub refusing : Refusal → Result (List ℕ) Refusal
+abbrev pub refusing : Refusal → Result (Option (List ℕ)) Refusal
 refusing refusal = Err refusal
 
 -- a topology that was not read is meant
@@ -190,7 +190,7 @@ pub meant_without_topology : (told : Told) (counts now : Counts) (names : Names)
 meant_without_topology told counts now names why.Memory h some = absurd (some refl)
 meant_without_topology told counts now names (why.Failed failed) h some = rw h.0 (inr (faulted_topology told counts now names h.1))
 meant_without_topology told counts now names (why.TooLong long) h some = rw h.0 (inl (comes_topology_long told names h.1))
-meant_without_topology told counts now names (why.NotBuilt off) h some = absurd h
+meant_without_topology told counts now names (why.Form fault) h some = absurd h
 
 -- a script that was not read is meant
 pub meant_without_script : (told : Told) (counts now : Counts) (names : Names) (topology : List ℕ) (refusal : Refusal) → TopologyRead told names topology
@@ -199,11 +199,11 @@ pub meant_without_script : (told : Told) (counts now : Counts) (names : Names) (
 meant_without_script told counts now names topology why.Memory t h some = absurd (some refl)
 meant_without_script told counts now names topology (why.Failed failed) t h some = rw h.0 (inr (faulted_script told counts now names topology t h.1))
 meant_without_script told counts now names topology (why.TooLong long) t h some = rw h.0 (inl (comes_script_long told names topology t h.1))
-meant_without_script told counts now names topology (why.NotBuilt off) t h some = absurd h
+meant_without_script told counts now names topology (why.Form fault) t h some = absurd h
 
 -- a schedule that was not read is meant
 pub meant_without_schedule : (told : Told) (counts now : Counts) (names : Names) (topology bytes : List ℕ) (script : FirstScript) (refusal : Refusal)
-    → BytesRead told names topology bytes → script_of bytes ≡ Some script
+    → BytesRead told names topology bytes → accept_script bytes ≡ Ok script
     → RefusesFile (told names.schedule) (counts names.schedule) (now names.schedule) word.Schedule refusal
     → refusing refusal ≢ Err why.Memory → Meant told counts now names (end_of names (Err refusal) script.transactions)
 meant_without_schedule told counts now names topology bytes script why.Memory b form h some = absurd (some refl)
@@ -211,7 +211,7 @@ meant_without_schedule told counts now names topology bytes script (why.Failed f
     rw h.0 (inr (faulted_schedule told counts now names topology bytes script b form h.1))
 meant_without_schedule told counts now names topology bytes script (why.TooLong long) b form h some =
     rw h.0 (inl (comes_schedule_long told names topology bytes script b form h.1))
-meant_without_schedule told counts now names topology bytes script (why.NotBuilt off) b form h some = absurd h
+meant_without_schedule told counts now names topology bytes script (why.Form fault) b form h some = absurd h
 
 -- ---- reads after other reads
 
@@ -221,7 +221,7 @@ pub refuses_from : (told later : Told) (counts mid now : Counts) (name : List �
 refuses_from told later counts mid now name which why.Memory same fell h = tt
 refuses_from told later counts mid now name which (why.Failed failed) same fell h = (h.0, omega (arith, fell name, h.1))
 refuses_from told later counts mid now name which (why.TooLong long) same fell h = (h.0, rw (same name) at h.1)
-refuses_from told later counts mid now name which (why.NotBuilt off) same fell h = absurd h
+refuses_from told later counts mid now name which (why.Form fault) same fell h = absurd h
 
 -- what is told stays over two reads
 pub same_twice : (told mid now : Told) → SameTold told mid → SameTold mid now → SameTold told now
@@ -238,7 +238,34 @@ bytes_read told later names topology bytes before same agrees short = record { b
 
 -- the schedule's bytes, where the script was read before them
 pub schedule_read : (told later : Told) (names : Names) (topology bytes schedule : List ℕ) (script : FirstScript) → BytesRead told names topology bytes
-    → script_of bytes ≡ Some script → SameTold told later → Agrees (later names.schedule) schedule → length schedule ≤ limit
+    → accept_script bytes ≡ Ok script → SameTold told later → Agrees (later names.schedule) schedule → length schedule ≤ limit
     → ScheduleRead told names topology bytes schedule script
 schedule_read told later names topology bytes schedule script before form same agrees short =
     record { before = before; form = form; agrees = rw (same names.schedule) at agrees; short = short }
+
+-- ---- bytes that are refused
+
+-- a topology that was refused is meant
+pub meant_topology_off : (told : Told) (counts now : Counts) (names : Names) (topology : List ℕ) (refusal : Refusal) → Agrees (told names.topology) topology
+    → length topology ≤ limit → RefusesForm refusal (accept_topology topology) → refusing refusal ≢ Err why.Memory → Meant told counts now names (end_of names (Err refusal) [])
+meant_topology_off told counts now names topology why.Memory agrees short h some = absurd (some refl)
+meant_topology_off told counts now names topology (why.Failed failed) agrees short h some = absurd h
+meant_topology_off told counts now names topology (why.TooLong long) agrees short h some = absurd h
+meant_topology_off told counts now names topology (why.Form fault) agrees short h some = inl (comes_topology_off told names topology fault agrees short h)
+
+-- a script that was refused is meant
+pub meant_script_off : (told : Told) (counts now : Counts) (names : Names) (topology bytes : List ℕ) (refusal : Refusal) → BytesRead told names topology bytes
+    → RefusesForm refusal (accept_script bytes) → refusing refusal ≢ Err why.Memory → Meant told counts now names (end_of names (Err refusal) [])
+meant_script_off told counts now names topology bytes why.Memory b h some = absurd (some refl)
+meant_script_off told counts now names topology bytes (why.Failed failed) b h some = absurd h
+meant_script_off told counts now names topology bytes (why.TooLong long) b h some = absurd h
+meant_script_off told counts now names topology bytes (why.Form fault) b h some = inl (comes_script_off told names topology bytes fault b h)
+
+-- a schedule that was refused is meant
+pub meant_schedule_off : (told : Told) (counts now : Counts) (names : Names) (topology bytes schedule : List ℕ) (script : FirstScript) (refusal : Refusal)
+    → ScheduleRead told names topology bytes schedule script → RefusesForm refusal (accept_schedule schedule) → refusing refusal ≢ Err why.Memory
+    → Meant told counts now names (end_of names (Err refusal) script.transactions)
+meant_schedule_off told counts now names topology bytes schedule script why.Memory s h some = absurd (some refl)
+meant_schedule_off told counts now names topology bytes schedule script (why.Failed failed) s h some = absurd h
+meant_schedule_off told counts now names topology bytes schedule script (why.TooLong long) s h some = absurd h
+meant_schedule_off told counts now names topology bytes schedule script (why.Form fault) s h some = inl (comes_schedule_off told names topology bytes schedule script fault s h)

@@ -1,22 +1,19 @@
 -- The headline of the top call, from how the call ended.
-use Rattle.std.proofs.Common.{◌≡◌, ◌≢◌, ℕ, ◌≤◌, Bool, true, false, cond, eqb, ltb, List, [], length, Option, Some, None, refl, sym, ap, subst, ◌∙◌, arith, ◌⊎◌, inl, inr}
-use Rattle.std.specs.Str.{bytes_eq}
-use Rattle.std.proofs.lemmas.Bool.{le-ltb, eqb-true, cases_eq}
-use Rattle.std.proofs.lemmas.List.{nil_from_length}
-use Rattle.ov_base.proofs.Readers.{word_is}
+use Rattle.std.proofs.Common.{◌≡◌, ◌≢◌, ℕ, ◌≤◌, Bool, true, false, cond, ltb, List, [], length, Option, Some, None, Result, Ok, Err, refl, sym, ap, subst, ◌∙◌, arith, ◌⊎◌, inl, inr}
+use Rattle.std.proofs.lemmas.Bool.{le-ltb, cases_eq}
 use Rattle.ov_functor.specs.declared.part.Part.{Part}
 use Rattle.ov_io.specs.Causes.{Agrees, Wrote}
-use Rattle.ov_top.specs.declared.refusal.FileWord.TheVariants.{Topology, Script, Schedule}
-use Rattle.ov_top.specs.declared.script.FirstScript.{FirstScript}
+use Rattle.ov_script.specs.Script.{script_text}
+use Rattle.ov_top.specs.declared.accept.FirstScript.{FirstScript}
+use Rattle.ov_top.specs.declared.refusal.FormFault.{FormFault}
 use Rattle.ov_top.specs.declared.story.FirstEntry.{FirstEntry}
 use Rattle.ov_top.specs.Names.{Names}
-use Rattle.ov_top.specs.Script.{script_text, script_of}
+use Rattle.ov_top.specs.Form.{accept_topology, accept_script, accept_schedule, form_status, form_text}
 use Rattle.ov_top.specs.Run.{entries_of, report_text}
-use Rattle.ov_top.specs.Ending.{Files, Ending, refused, done, within, at_schedule, at_parsed, at_script, at_topology, first_topology, limit, too_long_text, not_built_text}
+use Rattle.ov_top.specs.Ending.{Files, Ending, refused, done, within, accepted, at_schedule, at_script, at_topology, limit, too_long_text}
 use Rattle.ov_top.specs.Causes.{Told, Counts, Comes, Ends}
 use Rattle.ov_top.specs.Headline.{Performed, ReadFault, InForm, NoneRose}
-use Rattle.ov_top.proofs.Scripts.{script_takes}
-use Rattle.ov_top.proofs.ScriptsAgain.{script_again}
+use Rattle.ov_top.proofs.Forms.{form_stops, topology_takes, topology_again, first_script_takes, first_script_again, schedule_takes, schedule_again}
 
 -- ---- the order of work, from its end
 
@@ -29,9 +26,9 @@ pub record Stopped (end : Ending) : Type 0 where
 -- The files are in form, and this script was executed.
 pub record Executed (files : Files) (end : Ending) : Type 0 where
   pub script : FirstScript
-  pub topology_is : files.topology ≡ first_topology
-  pub read : script_of files.script ≡ Some script
-  pub schedule_is : files.schedule ≡ []
+  pub topology_is : accept_topology files.topology ≡ Ok tt
+  pub read : accept_script files.script ≡ Ok script
+  pub schedule_is : accept_schedule files.schedule ≡ Ok tt
   pub is : end ≡ done script
 
 -- a refusal stops the order of work
@@ -49,23 +46,35 @@ within_ends name bytes script next end e =
       | inr short ↦ inr short.1
     ]
 
-schedule_ends : (names : Names) (files : Files) (script : FirstScript) (end : Ending) → at_schedule names files script ≡ end → Stopped end ⊎ ((files.schedule ≡ []) × (end ≡ done script))
+accepted_ends : {A : Type 0} (verdict : Result A FormFault) (script : List (List Part)) (next : A → Ending) (end : Ending) → accepted verdict script next ≡ end
+    → Stopped end ⊎ ((value : A) × (verdict ≡ Ok value) × (next value ≡ end))
+accepted_ends (Ok value) script next end e = inr (value, refl, e)
+accepted_ends (Err fault) script next end e =
+    let stops = form_stops fault in
+    inl (stopped_refused (form_status fault) (form_text fault) script end stops.0 stops.1 e)
+
+schedule_ends : (names : Names) (files : Files) (script : FirstScript) (end : Ending) → at_schedule names files script ≡ end
+    → Stopped end ⊎ ((accept_schedule files.schedule ≡ Ok tt) × (end ≡ done script))
 schedule_ends names files script end e =
     elim (within_ends names.schedule files.schedule script.transactions _ end e) [
       | inl stopped ↦ inl stopped
-      | inr next ↦ elim (cond_cases (eqb (length files.schedule) 0) (done script) (refused 5 (not_built_text Schedule) script.transactions) end next) [
-        | inl none ↦ inr (nil_from_length files.schedule (eqb-true (length files.schedule) 0 none.0), sym none.1)
-        | inr some ↦ inl (stopped_refused 5 (not_built_text Schedule) script.transactions end (λ h. omega arith) (λ h. omega arith) some.1)
+      | inr next ↦ elim (accepted_ends (accept_schedule files.schedule) script.transactions (λ empty. done script) end next) [
+        | inl stopped ↦ inl stopped
+        | inr all ↦ inr (all.1, sym all.2)
       ]
     ]
 
-parsed_ends : (names : Names) (files : Files) (parsed : Option FirstScript) (end : Ending) → files.topology ≡ first_topology → script_of files.script ≡ parsed
-    → at_parsed names files parsed ≡ end → Stopped end ⊎ Executed files end
-parsed_ends names files None end topology read e = inl (stopped_refused 4 (not_built_text Script) [] end (λ h. omega arith) (λ h. omega arith) e)
-parsed_ends names files (Some script) end topology read e =
-    elim (schedule_ends names files script end e) [
+script_ends : (names : Names) (files : Files) (end : Ending) → accept_topology files.topology ≡ Ok tt → at_script names files ≡ end → Stopped end ⊎ Executed files end
+script_ends names files end topology e =
+    elim (within_ends names.script files.script [] _ end e) [
       | inl stopped ↦ inl stopped
-      | inr all ↦ inr (record { script = script; topology_is = topology; read = read; schedule_is = all.0; is = all.1 })
+      | inr next ↦ elim (accepted_ends (accept_script files.script) [] (at_schedule names files) end next) [
+        | inl stopped ↦ inl stopped
+        | inr read ↦ elim (schedule_ends names files read.0 end read.2) [
+          | inl stopped ↦ inl stopped
+          | inr all ↦ inr (record { script = read.0; topology_is = topology; read = read.1; schedule_is = all.0; is = all.1 })
+        ]
+      ]
     ]
 
 -- the order of work was stopped, or came to executing the script
@@ -73,12 +82,9 @@ pub work_ends : (names : Names) (files : Files) (end : Ending) → at_topology n
 work_ends names files end e =
     elim (within_ends names.topology files.topology [] _ end e) [
       | inl stopped ↦ inl stopped
-      | inr next ↦ elim (cond_cases (bytes_eq files.topology first_topology) (at_script names files) (refused 3 (not_built_text Topology) []) end next) [
-        | inl form ↦ elim (within_ends names.script files.script [] (at_parsed names files (script_of files.script)) end form.1) [
-          | inl stopped ↦ inl stopped
-          | inr parsed ↦ parsed_ends names files (script_of files.script) end (word_is files.topology first_topology form.0) refl parsed
-        ]
-        | inr off ↦ inl (stopped_refused 3 (not_built_text Topology) [] end (λ h. omega arith) (λ h. omega arith) off.1)
+      | inr next ↦ elim (accepted_ends (accept_topology files.topology) [] (λ served. at_script names files) end next) [
+        | inl stopped ↦ inl stopped
+        | inr served ↦ script_ends names files end served.1 served.2
       ]
     ]
 
@@ -87,7 +93,7 @@ work_ends names files end e =
 executed_performs : (told : Told) (names : Names) (end : Ending) (comes : Comes told names end) (script : List (List Part)) (entries : List FirstEntry) (old new : Option (List ℕ))
     → Executed comes.files end → script ≡ end.script → entries ≡ end.entries → Wrote old new end.text → Performed told (Some names) script entries old new
 executed_performs told names end comes script entries old new x script_is entries_is wrote =
-    let takes = script_takes comes.files.script x.script x.read in
+    let takes = first_script_takes comes.files.script x.script x.read in
     let script_same : script ≡ x.script.transactions = script_is ∙ ap (λ (e : Ending). e.script) x.is in
     let entries_same : entries ≡ entries_of x.script.transactions = entries_is ∙ ap (λ (e : Ending). e.entries) x.is in
     let wrote_same : Wrote old new (report_text x.script.session (entries_of x.script.transactions)) = subst (λ (e : Ending). Wrote old new e.text) x.is wrote in
@@ -96,11 +102,13 @@ executed_performs told names end comes script entries old new x script_is entrie
       words_are = refl;
       files = comes.files;
       agree = comes.agree;
-      topology_is = x.topology_is;
-      schedule_is = x.schedule_is;
+      topology_is = topology_takes comes.files.topology x.topology_is;
+      schedule_is = schedule_takes comes.files.schedule x.schedule_is;
+      lines = takes.lines;
+      in_form = takes.in_form;
+      spelled = takes.spelled;
       session = x.script.session;
-      in_form = takes.0;
-      spelled = takes.1;
+      said = takes.said;
       executed = refl;
       reported = wrote_same;
     })
@@ -153,21 +161,22 @@ read_faulted told counts now (Some names) status script entries old new ends sev
 
 -- ---- words and files in form
 
--- the order of work over files in form comes to executing the script
-work_of_form : (names : Names) (files : Files) (script : FirstScript) → files.topology ≡ first_topology → files.script ≡ script_text script → length (script_text script) ≤ limit
-    → files.schedule ≡ [] → script_of (script_text script) ≡ Some script → at_topology names files ≡ done script
-work_of_form names files script topology spelled short schedule again =
-    rw (topology, spelled, schedule, le-ltb limit (length (script_text script)) short, again) refl
+-- the order of work over accepted files comes to executing the script
+work_of_form : (names : Names) (files : Files) (script : FirstScript) → accept_topology files.topology ≡ Ok tt → length files.topology ≤ limit → accept_script files.script ≡ Ok script
+    → length files.script ≤ limit → files.schedule ≡ [] → at_topology names files ≡ done script
+work_of_form names files script topology topology_short read script_short schedule =
+    rw (le-ltb limit (length files.topology) topology_short, topology, le-ltb limit (length files.script) script_short, read, schedule, schedule_again) refl
 
 agrees_some : (told : Option (List ℕ)) (text bytes : List ℕ) → told ≡ Some text → Agrees told bytes → bytes ≡ text
 agrees_some told text bytes e h = rw e at h
 
 form_comes : (told : Told) (names : Names) (form : InForm told (Some names)) (end : Ending) → names ≡ form.names → Comes told names end → end.status ≡ 0
 form_comes told names form end same comes =
-    let topology = agrees_some (told names.topology) first_topology comes.files.topology (ap (λ (n : Names). told n.topology) same ∙ form.topology_is) comes.agree.topology in
-    let script = agrees_some (told names.script) (script_text form.script) comes.files.script (ap (λ (n : Names). told n.script) same ∙ form.script_is) comes.agree.script in
-    let schedule = agrees_some (told names.schedule) [] comes.files.schedule (ap (λ (n : Names). told n.schedule) same ∙ form.schedule_is) comes.agree.schedule in
-    let work = work_of_form names comes.files form.script topology script form.script_short schedule (script_again form.script form.script_form) in
+    let topology = agrees_some (told names.topology) form.topology comes.files.topology (ap (λ (n : Names). told n.topology) same ∙ form.topology_told) comes.agree.topology in
+    let script = agrees_some (told names.script) (script_text form.lines) comes.files.script (ap (λ (n : Names). told n.script) same ∙ form.script_told) comes.agree.script in
+    let schedule = agrees_some (told names.schedule) [] comes.files.schedule (ap (λ (n : Names). told n.schedule) same ∙ form.schedule_told) comes.agree.schedule in
+    let work = work_of_form names comes.files form.script (ap accept_topology topology ∙ topology_again form.topology form.topology_is) (rw topology form.topology_short)
+    (ap accept_script script ∙ first_script_again form.lines form.script form.script_form form.said) (rw script form.script_short) schedule in
     ap (λ (e : Ending). e.status) (sym comes.is ∙ work)
 
 form_means : (told : Told) (counts now : Counts) (words : Option Names) (status : ℕ) (script : List (List Part)) (entries : List FirstEntry) (old new : Option (List ℕ))

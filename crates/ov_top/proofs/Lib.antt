@@ -1,7 +1,6 @@
 pub mod Items
 pub mod Entries
-pub mod Scripts
-pub mod ScriptsAgain
+pub mod Forms
 pub mod Endings
 pub mod Puts
 pub mod Steps

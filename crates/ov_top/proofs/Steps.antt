@@ -85,11 +85,11 @@ ends_refused told counts counts' names (why.Failed word) status before now scrip
     ends_as_meant told counts counts' names (end_of names (Err (why.Failed word)) script) status before now old new (meant (λ e. absurd cc)) puts
 ends_refused told counts counts' names (why.TooLong word) status before now script old new meant puts memory =
     ends_as_meant told counts counts' names (end_of names (Err (why.TooLong word)) script) status before now old new (meant (λ e. absurd cc)) puts
-ends_refused told counts counts' names (why.NotBuilt word) status before now script old new meant puts memory =
-    ends_as_meant told counts counts' names (end_of names (Err (why.NotBuilt word)) script) status before now old new (meant (λ e. absurd cc)) puts
+ends_refused told counts counts' names (why.Form fault) status before now script old new meant puts memory =
+    ends_as_meant told counts counts' names (end_of names (Err (why.Form fault)) script) status before now old new (meant (λ e. absurd cc)) puts
 
 -- memory ran out while the script was executed
-pub ends_unfinished : (told : Told) (counts counts' : Counts) (names : Names) (session : List ℕ) (script : List (List Part)) (entries : List FirstEntry) (old : Option (List ℕ))
+pub ends_unfinished : (told : Told) (counts counts' : Counts) (names : Names) (session : Option (List ℕ)) (script : List (List Part)) (entries : List FirstEntry) (old : Option (List ℕ))
     → Prepares told counts counts' names (Ok session) script → AddsFront [] entries (entries_of script) → Ends told counts counts' (Some names) 9 script entries old old
 ends_unfinished told counts counts' names session script entries old meant front =
     let end : Ending = end_of names (Ok session) script in
@@ -104,7 +104,7 @@ ends_unfinished told counts counts' names session script entries old meant front
     }
 
 -- the report of the executed script was put
-pub ends_done : (told : Told) (counts counts' : Counts) (names : Names) (session : List ℕ) (script : List (List Part)) (entries : List FirstEntry) (status before now : ℕ) (old new : Option (List ℕ))
+pub ends_done : (told : Told) (counts counts' : Counts) (names : Names) (session : Option (List ℕ)) (script : List (List Part)) (entries : List FirstEntry) (status before now : ℕ) (old new : Option (List ℕ))
     → Prepares told counts counts' names (Ok session) script → entries ≡ entries_of script → Puts 0 (report_text session entries) status before now old new
     → Ends told counts counts' (Some names) status script entries old new
 ends_done told counts counts' names session script entries status before now old new meant executed puts =

@@ -1,6 +1,5 @@
 -- The clauses of the top call: what is meant over what a shelf tells, and what a call did.
-use Rattle.std.specs.Prelude.{◌≡◌, ◌≢◌, ℕ, List, [], Option, Some, None, Result, Ok, Err, ◌⊎◌, length, nat_le, ◌&&◌, Bool, if◌then◌else◌}
-use Rattle.std.specs.Str.{bytes_eq}
+use Rattle.std.specs.Prelude.{◌≡◌, ◌≢◌, ℕ, List, [], Option, Some, None, Result, Ok, Err, ◌⊎◌, length, nat_le, if◌then◌else◌}
 use Rattle.ov_base.specs.Word.{◌>>=◌, AddsFront}
 use Rattle.ov_functor.specs.declared.part.Part.{Part}
 use Rattle.ov_io.specs.declared.shelf.ShelfError.{ShelfError}
@@ -12,8 +11,16 @@ use Rattle.ov_top.specs.declared.refusal.Refusal.{Refusal}
 use Rattle.ov_top.specs.declared.refusal.Refusal.TheVariants as why
 use Rattle.ov_top.specs.declared.story.FirstEntry.{FirstEntry}
 use Rattle.ov_top.specs.Names.{Names, name_at}
-use Rattle.ov_top.specs.Script.{script_of}
-use Rattle.ov_top.specs.Ending.{Files, Ending, at_topology, refused, done, first_topology, limit, usage_text, read_fault_text, too_long_text, not_built_text}
+use Rattle.ov_topology.specs.declared.fault.TopologyError.{TopologyError}
+use Rattle.ov_topology.specs.declared.fault.TopologyError.TheVariants as topologies
+use Rattle.ov_script.specs.declared.fault.ScriptError.{ScriptError}
+use Rattle.ov_script.specs.declared.fault.ScriptError.TheVariants as scripts
+use Rattle.ov_script.specs.declared.fault.ScheduleError.{ScheduleError}
+use Rattle.ov_script.specs.declared.fault.ScheduleError.TheVariants as schedules
+use Rattle.ov_top.specs.declared.refusal.FormFault.{FormFault}
+use Rattle.ov_top.specs.declared.refusal.FormFault.TheVariants as form
+use Rattle.ov_top.specs.Form.{accept_topology, accept_script, form_status, form_text}
+use Rattle.ov_top.specs.Ending.{Files, Ending, at_topology, refused, done, limit, usage_text, read_fault_text, too_long_text}
 
 -- what a shelf tells of each name
 abbrev pub Told : Type 0
@@ -37,15 +44,19 @@ pub record Comes (told : Told) (names : Names) (end : Ending) : Type 0 where
   pub agree : Agree told names files
   pub is : at_topology names files ≡ end
 
--- whether the order of work comes to the script
-abbrev pub reaches_script : Files → Bool
-reaches_script files = nat_le (length files.topology) limit && bytes_eq files.topology first_topology
+-- a file within the limit is accepted
+abbrev pub passes : {A : Type 0} → List ℕ → Result A FormFault → Option A
+passes bytes (Ok value) = if nat_le (length bytes) limit then Some value else None
+passes bytes (Err fault) = None
 
 -- what the story's script is where the order of work comes to this file
 abbrev pub reached : FileWord → Files → Option (List (List Part))
 reached word.Topology files = Some []
-reached word.Script files = if reaches_script files then Some [] else None
-reached word.Schedule files = if reaches_script files && nat_le (length files.script) limit then (script_of files.script >>= λ script. Some script.transactions) else None
+reached word.Script files = passes files.topology (accept_topology files.topology) >>= λ served. Some []
+reached word.Schedule files = do
+  served ← passes files.topology (accept_topology files.topology)
+  script ← passes files.script (accept_script files.script)
+  Some script.transactions
 
 -- A read has failed: the order of work came to a file word, and the count of that name rose.
 pub record Faulted (told : Told) (counts now : Counts) (names : Names) (end : Ending) : Type 0 where
@@ -86,7 +97,7 @@ abbrev pub RefusesFile : Option (List ℕ) → ℕ → ℕ → FileWord → Refu
 RefusesFile told count now which why.Memory = Unit {0}
 RefusesFile told count now which (why.Failed failed) = (failed ≡ which) × Rose count now
 RefusesFile told count now which (why.TooLong long) = (long ≡ which) × LongerThan limit told
-RefusesFile told count now which (why.NotBuilt off) = ⊥
+RefusesFile told count now which (why.Form fault) = ⊥
 
 -- the refusal of a shelf's error
 abbrev pub refusal_by : ShelfError → FileWord → Refusal
@@ -94,29 +105,54 @@ refusal_by shelf.Memory which = why.Memory
 refusal_by shelf.Failed which = why.Failed which
 refusal_by shelf.TooLong which = why.TooLong which
 
+-- a refusal of the topology
+abbrev pub by_topology : TopologyError → Refusal
+by_topology topologies.Memory = why.Memory
+by_topology fault = why.Form (form.Topology fault)
+
+-- a refusal of the script
+abbrev pub by_script : ScriptError → Refusal
+by_script scripts.Memory = why.Memory
+by_script fault = why.Form (form.Script fault)
+
+-- a refusal of the schedule
+abbrev pub by_schedule : ScheduleError → Refusal
+by_schedule schedules.Memory = why.Memory
+by_schedule fault = why.Form (form.Schedule fault)
+
+-- the refusal of a file's bytes is the fault that they have, unless memory ran out
+abbrev pub RefusesForm : {A : Type 0} → Refusal → Result A FormFault → Type 0
+RefusesForm why.Memory verdict = Unit {0}
+RefusesForm (why.Failed failed) verdict = ⊥
+RefusesForm (why.TooLong long) verdict = ⊥
+RefusesForm (why.Form fault) verdict = verdict ≡ Err fault
+
+-- what a call makes of a file's bytes is what becomes of them, unless memory ran out
+abbrev pub AcceptsBy : {A : Type 0} → Result A Refusal → Result A FormFault → Type 0
+AcceptsBy (Ok value) verdict = verdict ≡ Ok value
+AcceptsBy (Err refusal) verdict = RefusesForm refusal verdict
+
 -- the status of a refusal
 abbrev pub refusal_status : Refusal → ℕ
 refusal_status why.Memory = 9
 refusal_status (why.Failed failed) = 7
 refusal_status (why.TooLong long) = 10
-refusal_status (why.NotBuilt word.Topology) = 3
-refusal_status (why.NotBuilt word.Script) = 4
-refusal_status (why.NotBuilt word.Schedule) = 5
+refusal_status (why.Form fault) = form_status fault
 
 -- the text of a refusal
 abbrev pub refusal_text : Names → Refusal → List ℕ
 refusal_text names why.Memory = []
 refusal_text names (why.Failed failed) = read_fault_text (name_at names failed)
 refusal_text names (why.TooLong long) = too_long_text (name_at names long)
-refusal_text names (why.NotBuilt off) = not_built_text off
+refusal_text names (why.Form fault) = form_text fault
 
 -- the end that the reading half leads to
-abbrev pub end_of : Names → Result (List ℕ) Refusal → List (List Part) → Ending
+abbrev pub end_of : Names → Result (Option (List ℕ)) Refusal → List (List Part) → Ending
 end_of names (Ok session) script = done (record { session = session; transactions = script })
 end_of names (Err refusal) script = refused (refusal_status refusal) (refusal_text names refusal) script
 
 -- what the reading half answers is meant, unless memory ran out
-abbrev pub Prepares : Told → Counts → Counts → Names → Result (List ℕ) Refusal → List (List Part) → Type 0
+abbrev pub Prepares : Told → Counts → Counts → Names → Result (Option (List ℕ)) Refusal → List (List Part) → Type 0
 Prepares told counts now names result script = result ≢ Err why.Memory → Meant told counts now names (end_of names result script)
 
 -- ---- the writing half

@@ -1,13 +1,12 @@
 -- The order of work, as one function: how the command `step` ends where its files have these bytes.
-use Rattle.std.specs.Prelude.{ℕ, Bool, true, not, ◌&&◌, ◌==◌, nat_lt, List, [], ◌∷◌, ◌++◌, length, codes, Option, Some, None, if◌then◌else◌}
+use Rattle.std.specs.Prelude.{ℕ, Bool, true, not, ◌&&◌, ◌==◌, nat_lt, List, [], ◌∷◌, ◌++◌, length, codes, Option, Some, None, Result, Ok, Err, if◌then◌else◌}
 use Rattle.std.specs.Str.{bytes_eq}
 use Rattle.ov_functor.specs.declared.part.Part.{Part}
-use Rattle.ov_top.specs.declared.refusal.FileWord.{FileWord}
-use Rattle.ov_top.specs.declared.refusal.FileWord.TheVariants.{Topology, Script, Schedule}
-use Rattle.ov_top.specs.declared.script.FirstScript.{FirstScript}
+use Rattle.ov_top.specs.declared.accept.FirstScript.{FirstScript}
+use Rattle.ov_top.specs.declared.refusal.FormFault.{FormFault}
 use Rattle.ov_top.specs.declared.story.FirstEntry.{FirstEntry}
+use Rattle.ov_top.specs.Form.{accept_topology, accept_script, accept_schedule, form_status, form_text}
 use Rattle.ov_top.specs.Names.{Names}
-use Rattle.ov_top.specs.Script.{script_of}
 use Rattle.ov_top.specs.Run.{entries_of, report_text}
 
 -- ---- the texts
@@ -20,16 +19,6 @@ read_fault_text name = codes "read fault: " ++ name ++ codes "\n"
 
 abbrev pub too_long_text : List ℕ → List ℕ
 too_long_text name = codes "too long: " ++ name ++ codes "\n"
-
--- a file that is off the form that is built so far
-abbrev pub not_built_text : FileWord → List ℕ
-not_built_text Topology = codes "topology: not built\n"
-not_built_text Script = codes "script: not built\n"
-not_built_text Schedule = codes "schedule: not built\n"
-
--- the five lines of a topology of one centre, one partition and one gateway
-abbrev pub first_topology : List ℕ
-first_topology = codes "centres = 1\npartitions = 1\ngateways = [0]\nwrite = 1\nread = 1\n"
 
 -- ---- the words
 
@@ -83,16 +72,17 @@ done script = record { status = 0; text = report_text script.session (entries_of
 abbrev pub within : List ℕ → List ℕ → List (List Part) → Ending → Ending
 within name bytes script next = if nat_lt limit (length bytes) then refused 10 (too_long_text name) script else next
 
-abbrev pub at_schedule : Names → Files → FirstScript → Ending
-at_schedule names files script = within names.schedule files.schedule script.transactions (if length files.schedule == 0 then done script else refused 5 (not_built_text Schedule) script.transactions)
+-- an accepted file goes on
+abbrev pub accepted : {A : Type 0} → Result A FormFault → List (List Part) → (A → Ending) → Ending
+accepted (Ok value) script next = next value
+accepted (Err fault) script next = refused (form_status fault) (form_text fault) script
 
-abbrev pub at_parsed : Names → Files → Option FirstScript → Ending
-at_parsed names files None = refused 4 (not_built_text Script) []
-at_parsed names files (Some script) = at_schedule names files script
+abbrev pub at_schedule : Names → Files → FirstScript → Ending
+at_schedule names files script = within names.schedule files.schedule script.transactions (accepted (accept_schedule files.schedule) script.transactions λ empty. done script)
 
 abbrev pub at_script : Names → Files → Ending
-at_script names files = within names.script files.script [] (at_parsed names files (script_of files.script))
+at_script names files = within names.script files.script [] (accepted (accept_script files.script) [] (at_schedule names files))
 
 -- the end with these file words, where the files have these bytes
 abbrev pub at_topology : Names → Files → Ending
-at_topology names files = within names.topology files.topology [] (if bytes_eq files.topology first_topology then at_script names files else refused 3 (not_built_text Topology) [])
+at_topology names files = within names.topology files.topology [] (accepted (accept_topology files.topology) [] λ served. at_script names files)

@@ -1,4 +1,4 @@
-pub mod Script
+pub mod Form
 pub mod Run
 pub mod Engine
 pub mod Names

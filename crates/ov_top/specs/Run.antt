@@ -1,5 +1,5 @@
 -- Running a script: its transactions executed one at a time, in the order of its lines, on the empty map.
-use Rattle.std.specs.Prelude.{ℕ, ◌+◌, List, [], ◌∷◌, ◌++◌}
+use Rattle.std.specs.Prelude.{ℕ, ◌+◌, List, [], ◌∷◌, ◌++◌, Option, Some, None}
 use Rattle.std.specs.Fmt.{decimal}
 use Rattle.std.specs.List.{flat_map}
 use Rattle.ov_base.specs.Version.{number}
@@ -28,11 +28,16 @@ entries_from k map (transaction ∷ others) = command_entries k map transaction 
 abbrev pub entries_of : List (List Part) → List FirstEntry
 entries_of transactions = entries_from 1 empty transactions
 
+-- the name of the session, where there is one
+abbrev pub name_or_none : Option (List ℕ) → List ℕ
+name_or_none None = []
+name_or_none (Some name) = name
+
 -- the line of the report for an entry: a reply has one, `SESSION N REPLY`
-abbrev pub entry_line : List ℕ → FirstEntry → List ℕ
+abbrev pub entry_line : Option (List ℕ) → FirstEntry → List ℕ
 entry_line session (Began k version transaction) = []
-entry_line session (Replied k reply) = session ++ 32 ∷ decimal k ++ 32 ∷ reply_text reply ++ 10 ∷ []
+entry_line session (Replied k reply) = name_or_none session ++ 32 ∷ decimal k ++ 32 ∷ reply_text reply ++ 10 ∷ []
 
 -- the report of the entries, by lines
-abbrev pub report_text : List ℕ → List FirstEntry → List ℕ
+abbrev pub report_text : Option (List ℕ) → List FirstEntry → List ℕ
 report_text session entries = flat_map (entry_line session) entries

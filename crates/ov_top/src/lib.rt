@@ -10,10 +10,10 @@
 //! with `specs/Run.antt`, what executing a script gives.
 #![tactic(auto)]
 
+mod accept;
 mod engine;
 mod prepare;
 mod refusal;
-mod script;
 mod step;
 mod story;
 mod words;

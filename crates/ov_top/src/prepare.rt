@@ -4,48 +4,37 @@ ghost use Rattle.ov_io.specs.Causes.{NoneFell, SameTold, Agrees};
 ghost use Rattle.ov_top.specs.Causes.{Prepares, RefusesFile, refusal_by};
 ghost use Rattle.ov_top.specs.Names.{names_seen, name_at};
 
+use crate::accept::{accept_schedule, accept_script, accept_topology};
 use crate::refusal::{FileWord, Refusal};
-use crate::script::parse_script;
 use crate::story::Story;
 use crate::words::{FileNames, name_of};
-use ov_base::Sequence;
 use ov_io::{Shelf, ShelfError};
+use ov_session::SessionName;
 use std::alloc::Global;
 
 /// The most bytes of a file, 4 MiB.
 const LIMIT: u64 = 4_194_304;
 
-/// The topology that is built so far: one centre, one partition and one gateway.
-const FIRST_TOPOLOGY: &[u8] = b"centres = 1\npartitions = 1\ngateways = [0]\nwrite = 1\nread = 1\n";
-
-/// Reads the three files, in the order of work, and answers the name of the script's session. The script
-/// goes into the story as soon as it is accepted.
+/// Reads the three files, in the order of work, and answers the name of the script's session, where it has
+/// one. The script goes into the story as soon as it is accepted.
 pub(crate) fn prepare<F: Shelf>(
     alloc: Global,
     names: &FileNames<'_>,
     shelf: &mut F,
     story: &mut Story,
-) -> Result<Sequence<u8>, Refusal>
+) -> Result<Option<SessionName>, Refusal>
     requires { story.old ≡ record { script = []; entries = [] } }
     ensures prepared { Prepares (F.told shelf.old) (F.faults shelf.old) (F.faults shelf.new) (names_seen names.now) result story.new.script }
     ensures few { IfOk result (λ s. length story.new.script ≤ 4000) }
     ensures entries { story.new.entries ≡ [] }
 {
     let topology = read_file(alloc, names, FileWord::Topology, shelf)?;
-    if topology.as_slice() != FIRST_TOPOLOGY {
-        return Err(Refusal::NotBuilt(FileWord::Topology));
-    }
+    accept_topology(alloc, topology.as_slice())?;
     let bytes = read_file(alloc, names, FileWord::Script, shelf)?;
-    let script = match parse_script(alloc, bytes.as_slice()) {
-        Ok(Some(script)) => script,
-        Ok(None) => return Err(Refusal::NotBuilt(FileWord::Script)),
-        Err(_) => return Err(Refusal::Memory),
-    };
+    let script = accept_script(alloc, bytes.as_slice())?;
     story.script = script.transactions;
     let schedule = read_file(alloc, names, FileWord::Schedule, shelf)?;
-    if !schedule.is_empty() {
-        return Err(Refusal::NotBuilt(FileWord::Schedule));
-    }
+    accept_schedule(alloc, schedule.as_slice())?;
     Ok(script.session)
 }
 

@@ -79,7 +79,7 @@ fn step<F: Shelf, K: Sink>(
         Ok(session) => {
             match execute(alloc, story.script.as_slice(), &mut story.entries) {
                 Err(_) => 9,
-                Ok(()) => put_report(alloc, session.as_slice(), story.entries.as_slice(), out),
+                Ok(()) => put_report(alloc, session, story.entries.as_slice(), out),
             }
         }
     }

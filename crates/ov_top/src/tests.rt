@@ -1,5 +1,4 @@
 //! Tests of what no clause says: worked examples, and each call that takes memory with ample memory.
 
-mod calls;
+mod faults;
 mod step;
-mod transactions;

@@ -2,17 +2,19 @@
 ghost use Rattle.std.specs.Prelude.{◌≡◌, ◌++◌, ◌≤◌, [], ◌∷◌, decimal, codes, OnOk, OnErr, IfOk, IsErrOf};
 ghost use Rattle.ov_io.specs.Causes.{Rose, Wrote, WroteFront};
 ghost use Rattle.ov_top.specs.Causes.{Puts, refusal_status, refusal_text};
-ghost use Rattle.ov_top.specs.Ending.{usage_text, not_built_text};
+ghost use Rattle.ov_top.specs.Ending.{usage_text};
+ghost use Rattle.ov_top.specs.Form.{form_status, form_text};
 ghost use Rattle.ov_functor.specs.Reply.{reply_text};
 ghost use Rattle.ov_top.specs.Names.{names_seen};
-ghost use Rattle.ov_top.specs.Run.{report_text, entry_line};
+ghost use Rattle.ov_top.specs.Run.{report_text, entry_line, name_or_none};
 
-use crate::refusal::{FileWord, Refusal};
+use crate::refusal::{FormFault, Refusal};
 use crate::story::FirstEntry;
 use crate::words::{FileNames, name_of};
 use ov_base::{Memory, print_number};
 use ov_functor::Reply;
 use ov_io::{Sink, SinkError};
+use ov_session::SessionName;
 use std::alloc::Global;
 
 /// The usage text, a line for each command.
@@ -44,18 +46,26 @@ pub(crate) fn put_refusal<K: Sink>(
         Refusal::Memory => 9,
         Refusal::Failed(word) => put_named(alloc, 7, b"read fault: ", name_of(names, word), out),
         Refusal::TooLong(word) => put_named(alloc, 10, b"too long: ", name_of(names, word), out),
-        Refusal::NotBuilt(word) => put_not_built(alloc, word, out),
+        Refusal::Form(fault) => put_fault(alloc, &fault, out),
     }
 }
 
-fn put_not_built<K: Sink>(alloc: Global, word: FileWord, out: &mut K) -> u8
-    ensures { Puts (refusal_status (Refusal.NotBuilt word)) (not_built_text word) result (K.faults out.old) (K.faults out.new) (K.written out.old) (K.written out.new) }
+fn put_fault<K: Sink>(alloc: Global, fault: &FormFault, out: &mut K) -> u8
+    ensures { Puts (form_status fault.now) (form_text fault.now) result (K.faults out.old) (K.faults out.new) (K.written out.old) (K.written out.new) }
 {
-    match word {
-        FileWord::Topology => put_text(alloc, 3, b"topology: not built\n", out),
-        FileWord::Script => put_text(alloc, 4, b"script: not built\n", out),
-        FileWord::Schedule => put_text(alloc, 5, b"schedule: not built\n", out),
+    match fault_line(alloc, fault) {
+        Err(_) => 9,
+        Ok(line) => put_text(alloc, fault.status(), line.as_slice(), out),
     }
+}
+
+fn fault_line(alloc: Global, fault: &FormFault) -> Result<Vec<u8>, Memory>
+    ensures { IfOk result (λ v. v.items ≡ form_text fault.now) }
+{
+    let mut line = Vec::new(alloc);
+    fault.print_to(alloc, &mut line)?;
+    line.push(b'\n')?;
+    Ok(line)
 }
 
 fn put_named<K: Sink>(alloc: Global, status: u8, front: &[u8], name: &str, out: &mut K) -> u8
@@ -99,14 +109,14 @@ fn status_of(error: SinkError) -> u8
 /// memory.
 pub(crate) fn put_report<K: Sink>(
     alloc: Global,
-    session: &[u8],
+    session: Option<SessionName>,
     entries: &[FirstEntry],
     out: &mut K,
 ) -> u8
-    ensures { Puts 0 (report_text session.now entries.now) result (K.faults out.old) (K.faults out.new) (K.written out.old) (K.written out.new) }
+    ensures { Puts 0 (report_text session entries.now) result (K.faults out.old) (K.faults out.new) (K.written out.old) (K.written out.new) }
 {
     for entry in entries {
-        match put_entry(alloc, session, entry, out) {
+        match put_entry(alloc, &session, entry, out) {
             Ok(()) => {}
             Err(error) => return status_of(error),
         }
@@ -116,7 +126,7 @@ pub(crate) fn put_report<K: Sink>(
 
 fn put_entry<K: Sink>(
     alloc: Global,
-    session: &[u8],
+    session: &Option<SessionName>,
     entry: &FirstEntry,
     out: &mut K,
 ) -> Result<(), SinkError>
@@ -127,10 +137,25 @@ fn put_entry<K: Sink>(
 {
     match entry {
         FirstEntry::Began { .. } => Ok(()),
-        FirstEntry::Replied { seq, reply } => match line_of(alloc, session, *seq, reply) {
+        FirstEntry::Replied { seq, reply } => match line_of(
+            alloc,
+            name_bytes(session),
+            *seq,
+            reply,
+        ) {
             Err(_) => Err(SinkError::Memory),
             Ok(line) => out.put(alloc, line.as_slice()),
         },
+    }
+}
+
+/// The name of the session, where there is one.
+fn name_bytes(session: &Option<SessionName>) -> &[u8]
+    ensures { result.now ≡ name_or_none session.now }
+{
+    match session {
+        None => b"",
+        Some(name) => name.bytes(),
     }
 }
 

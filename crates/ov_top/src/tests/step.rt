@@ -8,14 +8,15 @@ use std::process::Abort;
 use std::test::Fail;
 
 /// One centre, one partition and one gateway.
-const TOPOLOGY: &str = "centres = 1\npartitions = 1\ngateways = [0]\nwrite = 1\nread = 1\n";
+pub(super) const TOPOLOGY: &str =
+    "centres = 1\npartitions = 1\ngateways = [0]\nwrite = 1\nread = 1\n";
 
 /// One put and one get.
-const SCRIPT: &str = "session a g0\na do put x 5\na do get x\n";
+pub(super) const SCRIPT: &str = "session a g0\na do put x 5\na do get x\n";
 
 const REPORT: &str = "a 1 done 1.0\na 2 done 2.0 x=5\n";
 
-const WORDS: [&str; 4] = ["step", "a", "b", "c"];
+pub(super) const WORDS: [&str; 4] = ["step", "a", "b", "c"];
 
 const USAGE: &str = "usage: oceanvista step [--journal] TOPOLOGY SCRIPT SCHEDULE
        oceanvista run [--journal] TOPOLOGY SCRIPT WORKERS
@@ -25,10 +26,10 @@ const USAGE: &str = "usage: oceanvista step [--journal] TOPOLOGY SCRIPT SCHEDULE
 
 /// How a call ended: its status, what was written, and its story.
 #[derive(Drop)]
-struct Outcome {
-    status: u8,
-    written: String,
-    story: Story,
+pub(super) struct Outcome {
+    pub(super) status: u8,
+    pub(super) written: String,
+    pub(super) story: Story,
 }
 
 fn file(alloc: Global, name: &str, bytes: &[u8]) -> Result<NamedFile, AllocError> {
@@ -56,7 +57,7 @@ fn words_of(alloc: Global, words: &[&str]) -> Result<Vec<String>, AllocError> {
 }
 
 /// Runs the words over these files; the reads and the puts with these numbers fail.
-fn run(
+pub(super) fn run(
     alloc: Global,
     words: &[&str],
     files: &[(&str, &str)],
@@ -151,6 +152,29 @@ fn amounts_stop_at_the_ends_of_their_range(rt: HostRuntime) -> Result<(), Fail> 
 }
 
 #[test]
+fn a_wait_for_an_earlier_command_of_the_only_session_changes_nothing(
+    rt: HostRuntime,
+) -> Result<(), Fail> {
+    check_report(
+        &rt,
+        rt.alloc(),
+        "session a g0\na do put x 5\na after a 1\na do get x\na after a 2\na after a 1\n",
+        REPORT,
+    )
+}
+
+#[test]
+fn a_topology_may_be_written_in_another_way(rt: HostRuntime) -> Result<(), Fail> {
+    let topology =
+        "# one of each\nread = 1\nwrite = 1\ngateways = [ 0, ]\ncentres = 0x1\npartitions = +1\n";
+    let files = [("a", topology), ("b", SCRIPT), ("c", "")];
+    let outcome = run(rt.alloc(), &WORDS, &files, &[], &[])?;
+    assert_eq!(rt; outcome.status, 0);
+    assert_eq!(rt; outcome.written.as_str(), REPORT);
+    Ok(())
+}
+
+#[test]
 fn the_story_has_the_entries_of_each_command(rt: HostRuntime) -> Result<(), Fail> {
     let files = [("a", TOPOLOGY), ("b", SCRIPT), ("c", "")];
     let outcome = run(rt.alloc(), &WORDS, &files, &[], &[])?;
@@ -195,107 +219,6 @@ fn words_off_the_form_are_usage(rt: HostRuntime) -> Result<(), Fail> {
     Ok(())
 }
 
-/// Runs three texts of which one is not built.
-fn check_not_built(
-    rt: &impl Abort,
-    alloc: Global,
-    texts: (&str, &str, &str),
-    status: u8,
-    line: &str,
-) -> Result<(), Fail> {
-    let (topology, script, schedule) = texts;
-    let files = [("a", topology), ("b", script), ("c", schedule)];
-    let outcome = run(alloc, &WORDS, &files, &[], &[])?;
-    assert_eq!(rt; outcome.status, status, "{texts:?}");
-    assert_eq!(rt; outcome.written.as_str(), line, "{texts:?}");
-    assert!(rt; outcome.story.entries.is_empty());
-    Ok(())
-}
-
-#[test]
-fn topologies_and_schedules_off_the_form_are_not_built(rt: HostRuntime) -> Result<(), Fail> {
-    let two_gateways = "centres = 1\npartitions = 1\ngateways = [0, 0]\nwrite = 1\nread = 1\n";
-    for topology in [two_gateways, ""] {
-        check_not_built(
-            &rt,
-            rt.alloc(),
-            (topology, SCRIPT, ""),
-            3,
-            "topology: not built\n",
-        )?;
-    }
-    for schedule in ["settle e0\n", "\n"] {
-        check_not_built(
-            &rt,
-            rt.alloc(),
-            (TOPOLOGY, SCRIPT, schedule),
-            5,
-            "schedule: not built\n",
-        )?;
-    }
-    Ok(())
-}
-
-#[test]
-fn scripts_off_the_form_are_not_built(rt: HostRuntime) -> Result<(), Fail> {
-    let scripts = [
-        "session a g1\n",
-        "session session g0\n",
-        "session A g0\n",
-        "session abcdefghijklmnopq g0\n",
-        "a do get x\n",
-        "session a g0\nb do get x\n",
-        "session a g0\na do get x",
-        "session a g0\r\n",
-        "session a g0\n\n",
-        "session a g0\nsession b g0\n",
-        "\n",
-    ];
-    for script in scripts {
-        check_not_built(
-            &rt,
-            rt.alloc(),
-            (TOPOLOGY, script, ""),
-            4,
-            "script: not built\n",
-        )?;
-    }
-    Ok(())
-}
-
-#[test]
-fn parts_that_are_no_transaction_are_not_built(rt: HostRuntime) -> Result<(), Fail> {
-    let commands = [
-        "a do ",
-        "a  do get x",
-        "a do get x ",
-        "a do put x -0",
-        "a do put x 05",
-        "a do put x 1000000000000000001",
-        "a do put x-y 1",
-        "a do get x; get y",
-        "a do get x ; ",
-        "a do move x y 0",
-        "a do move x x 1",
-        "a do put x 1 ; add x 1",
-        "a do get x ; get x",
-        "a do get a ; get b ; get c ; get d ; get e ; get f ; get g ; get h ; get i",
-    ];
-    for command in commands {
-        let mut script = String::from_str(rt.alloc(), "session a g0\n")?;
-        script.push_str(command)?;
-        script.push_str("\n")?;
-        check_not_built(
-            &rt,
-            rt.alloc(),
-            (TOPOLOGY, script.as_str(), ""),
-            4,
-            "script: not built\n",
-        )?;
-    }
-    Ok(())
-}
-
 #[test]
 fn a_script_has_at_most_4000_commands(rt: HostRuntime) -> Result<(), Fail> {
     for (count, status) in [(4000, 0), (4001, 4)] {
@@ -314,7 +237,7 @@ fn a_script_has_at_most_4000_commands(rt: HostRuntime) -> Result<(), Fail> {
 fn a_file_beyond_the_limit_is_too_long(rt: HostRuntime) -> Result<(), Fail> {
     for (size, status, text) in [
         (4_194_305usize, 10, "too long: s\n"),
-        (4_194_304, 4, "script: not built\n"),
+        (4_194_304, 4, "script: line 1: form\n"),
     ] {
         let long = vec![in rt.alloc(); b'x'; size]?;
         let files = [

@@ -11,8 +11,8 @@ pub returns-in-Err-execute-clause-ends : goal.returns-in-Err-execute-clause-ends
 returns-in-Err-execute-clause-ends g c = ends_unfinished (g.F.Shelf.told c.args.shelf.now) (g.F.Shelf.faults c.args.shelf.now) (g.F.Shelf.faults c.prepare.new.shelf) (names_seen c.args.names.now)
     c.in-Ok.session _ _ _ c.in-Ok.ensures.prepared (rw (c.prepare.ensures.entries, c.as_slice.ensures) at c.in-Err-execute.ensures.front)
 
-pub returns-clause-ends : goal.returns-clause-ends
-returns-clause-ends g c = ends_done (g.F.Shelf.told c.args.shelf.now) (g.F.Shelf.faults c.args.shelf.now) (g.F.Shelf.faults c.prepare.new.shelf) (names_seen c.args.names.now)
+pub returns-in-Ok-execute-clause-ends : goal.returns-in-Ok-execute-clause-ends
+returns-in-Ok-execute-clause-ends g c = ends_done (g.F.Shelf.told c.args.shelf.now) (g.F.Shelf.faults c.args.shelf.now) (g.F.Shelf.faults c.prepare.new.shelf) (names_seen c.args.names.now)
     c.in-Ok.session _ _ c.put_report.result (g.K.Sink.faults c.args.out.now) (g.K.Sink.faults c.put_report.new.out) _ _
     c.in-Ok.ensures.prepared (rw (c.prepare.ensures.entries, c.as_slice.ensures) at c.in-Ok-execute.ensures.ok)
-    (rw (c.as_slice-in-Ok-execute.ensures, c.as_slice-in-Ok-execute-2.ensures) at c.put_report.ensures)
+    (rw c.as_slice-in-Ok-execute.ensures at c.put_report.ensures)

@@ -1,0 +1,6 @@
+pub mod ItemTests
+pub mod ValuedTests
+pub mod ReplyTests
+pub mod StartTests
+pub mod KindTests
+pub mod Letters

@@ -1,0 +1,155 @@
+//! What an actor tells others.
+ghost use Rattle.ov_base.specs.Tests.{exact_tests};
+ghost use Rattle.ov_event.specs.ItemTests.{items-cases};
+ghost use Rattle.ov_functor.specs.CommandTests.{transaction-cases};
+ghost use Rattle.ov_functor.specs.PartTests.{parts-cases};
+ghost use Rattle.ov_functor.specs.ShownTests.{showns-cases};
+ghost use Rattle.ov_gossip.specs.VectorTests.{vector_eq-cases};
+
+use crate::start::Start;
+use ov_base::{Memory, Plain, Sequence, Version};
+use ov_functor::{Item, Reply};
+use ov_gossip::Vector;
+use ov_topology::Mode;
+
+/// A letter (docs/STORE.md, Letters). It may be lost, taken late, or taken more than once.
+#[derive(Debug, PartialEq, Eq, Drop)]
+pub enum Letter {
+    /// The items of a transaction in one partition, by key.
+    Write {
+        version: Version,
+        part: u32,
+        items: Sequence<Item>,
+    },
+    /// A command wants its reply.
+    Want {
+        session: u32,
+        seq: u32,
+        gate: u32,
+        start: Start,
+    },
+    /// A node has stored the items of a version.
+    Ack {
+        version: Version,
+        centre: u32,
+        part: u32,
+    },
+    /// A gateway's marks, and what it knows of the others'.
+    Gossip {
+        gate: u32,
+        vector: Vector,
+    },
+    /// A settler asks for the items of a window.
+    Ask {
+        settler: u32,
+        round: u64,
+        mode: Mode,
+        from: u64,
+        below: u64,
+    },
+    /// A node's items of the window that was asked for.
+    Answer {
+        settler: u32,
+        round: u64,
+        centre: u32,
+        part: u32,
+        items: Sequence<Item>,
+    },
+    /// The reply to a command.
+    Result {
+        session: u32,
+        seq: u32,
+        gate: u32,
+        reply: Reply,
+    },
+    /// A command is replied; the gateway is the sender.
+    Told {
+        session: u32,
+        seq: u32,
+        gate: u32,
+    },
+}
+
+impl Plain for Letter {
+    ghost exact = { λ x y h. Prim.grind (exact_tests, parts-cases, transaction-cases, items-cases, showns-cases, vector_eq-cases) };
+
+    fn copy(&self) -> Result<Letter, Memory> {
+        match self {
+            Letter::Write {
+                version,
+                part,
+                items,
+            } => Ok(Letter::Write {
+                version: *version,
+                part: *part,
+                items: items.copy()?,
+            }),
+            Letter::Want {
+                session,
+                seq,
+                gate,
+                start,
+            } => Ok(Letter::Want {
+                session: *session,
+                seq: *seq,
+                gate: *gate,
+                start: start.copy()?,
+            }),
+            Letter::Ack {
+                version,
+                centre,
+                part,
+            } => Ok(Letter::Ack {
+                version: *version,
+                centre: *centre,
+                part: *part,
+            }),
+            Letter::Gossip { gate, vector } => Ok(Letter::Gossip {
+                gate: *gate,
+                vector: *vector,
+            }),
+            Letter::Ask {
+                settler,
+                round,
+                mode,
+                from,
+                below,
+            } => Ok(Letter::Ask {
+                settler: *settler,
+                round: *round,
+                mode: *mode,
+                from: *from,
+                below: *below,
+            }),
+            Letter::Answer {
+                settler,
+                round,
+                centre,
+                part,
+                items,
+            } => Ok(Letter::Answer {
+                settler: *settler,
+                round: *round,
+                centre: *centre,
+                part: *part,
+                items: items.copy()?,
+            }),
+            Letter::Result {
+                session,
+                seq,
+                gate,
+                reply,
+            } => Ok(Letter::Result {
+                session: *session,
+                seq: *seq,
+                gate: *gate,
+                reply: reply.copy()?,
+            }),
+            Letter::Told { session, seq, gate } => Ok(Letter::Told {
+                session: *session,
+                seq: *seq,
+                gate: *gate,
+            }),
+        }
+    }
+}

@@ -1,0 +1,13 @@
+pub mod Lines
+pub mod LineWords
+pub mod LineWordsAgain
+pub mod Steps
+pub mod Schedules
+pub mod OneMore
+pub mod Found
+pub mod Saying
+pub mod Keeping
+pub mod Adding
+pub mod Scripts
+pub mod Shown
+pub mod Bounds

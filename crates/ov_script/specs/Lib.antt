@@ -1,0 +1,10 @@
+pub mod Line
+pub mod Lines
+pub mod Sessions
+pub mod Faults
+pub mod Script
+pub mod Written
+pub mod Reading
+pub mod Step
+pub mod Schedule
+pub mod FaultLines

@@ -1,0 +1,7 @@
+//! Tests of what no clause says: worked examples, and each call that takes memory with ample memory.
+
+mod faults;
+mod lines;
+mod schedule;
+mod script;
+mod script_faults;

@@ -1,0 +1,5 @@
+pub mod Tables
+pub mod Ranges
+pub mod Actors
+pub mod Places
+pub mod Numbers

@@ -1,0 +1,6 @@
+pub mod Shape
+pub mod Actor
+pub mod Numbers
+pub mod Place
+pub mod Fault
+pub mod Read
