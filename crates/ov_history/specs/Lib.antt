@@ -1,0 +1,14 @@
+pub mod Past
+pub mod Letters
+pub mod Counts
+pub mod Draws
+pub mod Placement
+pub mod Marks
+pub mod Sessions
+pub mod Nodes
+pub mod Settlers
+pub mod May
+pub mod Gives
+pub mod Final
+pub mod Serial
+pub mod Example
