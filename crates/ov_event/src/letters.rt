@@ -12,15 +12,13 @@ use ov_topology::{Actor, Topology};
 use std::alloc::Global;
 
 /// The letter of this number of an entry, from 1 (docs/STORE.md, Letters). None exactly where the entry has no letter of
-/// that number; only want of memory is an error. Condition, here and below: the entry's actor is in the topology, and of
-/// the sort that its kind wants.
+/// that number; only want of memory is an error.
 pub fn letter_of(
     alloc: Global,
     topology: &Topology,
     entry: &Entry,
     number: u32,
 ) -> Result<Option<Letter>, Memory>
-    requires { IsOf topology.now entry.now }
     ensures { IfOk result (λ letter. letter ≡ letter_in topology.now entry.now number) }
 {
     if number == 0 {
@@ -37,7 +35,8 @@ pub fn letter_of(
     }
 }
 
-/// How many letters an entry has, at most 9. Takes no memory.
+/// How many letters an entry has, at most 9. Condition, here and below: the entry's actor is in the topology, and of
+/// the sort that its kind wants. Takes no memory.
 pub fn letter_count(topology: &Topology, entry: &Entry) -> u32
     requires { IsOf topology.now entry.now }
     ensures count { result ≡ length (letters_of topology.now entry.now) }

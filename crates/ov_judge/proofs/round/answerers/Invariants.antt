@@ -1,0 +1,10 @@
+use Rattle.std.proofs.Common.{◌≡◌, ℕ, length}
+use Rattle.ov_history.specs.Counts.{passing}
+use Rattle.ov_history.specs.Settlers.{took}
+use Rattle.ov_judge.proofs.round.answerers.Given as goal
+
+abbrev pub invariant-loop-centre : goal.invariant-loop-centre
+invariant-loop-centre l = record {
+  marks : l.marks.items ≡ passing (λ (c : ℕ). took l.settler l.round c l.part l.history) l.centre;
+  count : length l.marks.items ≡ l.centre;
+}
