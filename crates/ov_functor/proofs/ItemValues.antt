@@ -12,6 +12,7 @@ use Rattle.ov_functor.specs.Functor.{effect_at, effect_in, effect_of, or_else, f
 use Rattle.ov_functor.specs.Items.{keys_in, written_keys, item_by, items_at, items_of, set_all}
 use Rattle.ov_functor.specs.Values.{valued}
 use Rattle.ov_functor.specs.Windows.{Among}
+use Rattle.ov_functor.proofs.Among.{among_front, among_back}
 use Rattle.ov_functor.proofs.Agreement.{apply-is-exec, exec-keeps-others}
 
 -- setting a key to what the transaction gives keeps what is right
@@ -58,15 +59,6 @@ becomes_right version old transaction (key ∷ keys) now other functor is stands
 
 -- ---- a key with a functor is one of the written keys
 
-in_front : (key : List ℕ) (front back : List (List ℕ)) → Among key front → Among key (front ++ back)
-in_front key [] back stands = absurd stands
-in_front key (first ∷ front) back (inl same) = inl same
-in_front key (first ∷ front) back (inr later) = inr (in_front key front back later)
-
-behind : (key : List ℕ) (front back : List (List ℕ)) → Among key back → Among key (front ++ back)
-behind key [] back stands = stands
-behind key (first ∷ front) back stands = inr (behind key front back stands)
-
 at_is : (key written : List ℕ) (effect found : Effect) → effect_at key written effect ≡ Some found → key ≡ written
 at_is key written effect found is =
     elim (cases_Bool (key_eq written key)) [
@@ -95,11 +87,12 @@ in_parts : (key : List ℕ) (parts : List Part) (found : Effect) → effect_of k
 in_parts key [] found is = absurd cc
 in_parts key (part ∷ others) found is =
     one_of (effect_in key part) (effect_of key others) found is
-    (λ e one. in_front key (keys_in part) (written_keys others) (in_part key part e one))
-    (λ more. behind key (keys_in part) (written_keys others) (in_parts key others found more))
+    (λ e one. among_front key (keys_in part) (written_keys others) (in_part key part e one))
+    (λ more. among_back key (keys_in part) (written_keys others) (in_parts key others found more))
 
-written_stands : (key : List ℕ) (transaction : List Part) (functor : Placeholder) → functor_of transaction key ≡ Some functor → Among key (written_keys transaction)
-written_stands key transaction functor is = by (effect_of key transaction) refl is
+-- a key with a functor is written
+pub functor_writes : (key : List ℕ) (transaction : List Part) (functor : Placeholder) → functor_of transaction key ≡ Some functor → Among key (written_keys transaction)
+functor_writes key transaction functor is = by (effect_of key transaction) refl is
   where
     by : (found : Option Effect) → effect_of key transaction ≡ found → functor_by key found (moves_of transaction) ≡ Some functor → Among key (written_keys transaction)
     by None e is = absurd cc
@@ -114,4 +107,4 @@ items_execute version old transaction = λ i other. at other i
       where
         by : (found : Option Placeholder) → functor_of transaction other ≡ found → set_all old (map (valued old) (items_of version transaction)) other ≡ exec old transaction other
         by None none = stays_right version old transaction (written_keys transaction) old other (sym (exec-keeps-others old transaction other none))
-        by (Some functor) is = becomes_right version old transaction (written_keys transaction) old other functor is (written_stands other transaction functor is)
+        by (Some functor) is = becomes_right version old transaction (written_keys transaction) old other functor is (functor_writes other transaction functor is)

@@ -5,6 +5,7 @@ pub mod SerialFold
 pub mod Latest
 pub mod WindowValues
 pub mod MovesExact
+pub mod Among
 pub mod ItemValues
 pub mod PartWords
 pub mod PartWordsAgain

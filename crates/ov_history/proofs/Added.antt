@@ -8,35 +8,13 @@ use Rattle.ov_functor.specs.Functor.{functor_of}
 use Rattle.ov_functor.specs.Items.{keys_in, written_keys, item_by, items_at, items_of}
 use Rattle.ov_functor.specs.Placeholder.{Placeholder}
 use Rattle.ov_functor.specs.Windows.{Among, HasItem}
+use Rattle.ov_functor.proofs.Among.{among_front, among_back, among_either}
 use Rattle.ov_functor.specs.declared.item.Item.{Item}
 use Rattle.ov_functor.specs.declared.part.Part.{Part}
 use Rattle.ov_topology.specs.Shape.{Shape, place_of}
 use Rattle.ov_event.specs.Letters.{place_in, placed, placed_all, by_key, items_in, is_kept, part_touches, touches}
 use Rattle.ov_history.specs.Nodes.{same_place, precedes, added, all_added}
 use Rattle.ov_history.proofs.Past.{among_all_added}
-
--- ---- front and back
-
--- what is among the front is among both
-pub among_front : {X : Type 0} (x : X) (front back : List X) → Among x front → Among x (front ++ back)
-among_front x [] back among = absurd among
-among_front x (first ∷ front) back (inl same) = inl same
-among_front x (first ∷ front) back (inr later) = inr (among_front x front back later)
-
--- what is among the back is among both
-pub among_back : {X : Type 0} (x : X) (front back : List X) → Among x back → Among x (front ++ back)
-among_back x [] back among = among
-among_back x (first ∷ front) back among = inr (among_back x front back among)
-
--- what is among both is among one of them
-pub among_either : {X : Type 0} (x : X) (front back : List X) → Among x (front ++ back) → Among x front ⊎ Among x back
-among_either x [] back among = inr among
-among_either x (first ∷ front) back (inl same) = inl (inl same)
-among_either {X} x (first ∷ front) back (inr later) = by (among_either x front back later)
-  where
-    by : Among x front ⊎ Among x back → Among x (first ∷ front) ⊎ Among x back
-    by (inl here) = inl (inr here)
-    by (inr there) = inr there
 
 -- ---- added items
 

@@ -1,5 +1,4 @@
 pub mod Lists
-pub mod Written
 pub mod WindowItems
 pub mod Settled
 pub mod Sent

@@ -9,7 +9,8 @@ use Rattle.ov_functor.specs.Windows.{Among, Descends}
 use Rattle.ov_history.specs.Past.{History, is_settler}
 use Rattle.ov_history.specs.Nodes.{same_place, precedes, added, all_added}
 use Rattle.ov_history.specs.Settlers.{brought, harvest, backwards}
-use Rattle.ov_history.proofs.Added.{among_front, among_back, among_either, added_comes}
+use Rattle.ov_functor.proofs.Among.{among_front, among_back, among_either}
+use Rattle.ov_history.proofs.Added.{added_comes}
 
 -- ---- both ends
 

@@ -32,7 +32,7 @@ use Rattle.ov_history.proofs.Later.{begun_later, serial_later}
 use Rattle.ov_history.proofs.Orders.{replicated_under_visible}
 use Rattle.ov_history.proofs.Past.{at_newest, at_older}
 use Rattle.ov_laws.specs.Replies.{IsPublished}
-use Rattle.ov_history.proofs.Added.{among_front, among_back, among_either}
+use Rattle.ov_functor.proofs.Among.{among_front, among_back, among_either}
 use Rattle.ov_history.proofs.Harvests.{harvest_is_window}
 use Rattle.ov_laws.proofs.Lists.{Climbs, backwards_comes, backwards_has, harvest_climbs, climbs_back}
 use Rattle.ov_laws.proofs.WindowItems.{IsWindow, window_back, window_fits, window_covers}
