@@ -130,27 +130,33 @@ letter_in t entry number = if number == 0 then None else slice_get (letters_of t
 abbrev pub is_in : Shape → Actor → Bool
 is_in t actor = is_some (number_of t actor)
 
+-- whether the actor is this gateway
 abbrev pub is_gate : ℕ → Actor → Bool
 is_gate gate (Gate other) = other == gate
 is_gate gate other = false
 
+-- whether the actor is another gateway
 abbrev pub is_other_gate : ℕ → Actor → Bool
 is_other_gate gate (Gate other) = not (other == gate)
 is_other_gate gate other = false
 
+-- whether the actor is a node of this partition
 abbrev pub is_node_of : ℕ → Actor → Bool
 is_node_of part (Node centre other) = other == part
 is_node_of part other = false
 
+-- whether the actor is the settler of this centre
 abbrev pub is_settler : ℕ → Actor → Bool
 is_settler centre (Settler other) = other == centre
 is_settler centre other = false
 
+-- whether the actor hears the gossip of this gateway
 abbrev pub hears : ℕ → Actor → Bool
 hears sender (Gate gate) = not (gate == sender)
 hears sender (Settler centre) = true
 hears sender (Node centre part) = false
 
+-- whether the actor is asked in such a round of this settler
 abbrev pub is_asked : ℕ → Mode → Actor → Bool
 is_asked settler Quorum (Node centre part) = true
 is_asked settler One (Node centre part) = centre == settler

@@ -1,6 +1,8 @@
 //! What an entry says.
+ghost use Rattle.std.specs.Prelude.{◌≡◌, true, IfOk};
 ghost use Rattle.ov_base.specs.Tests.{exact_tests};
 ghost use Rattle.ov_event.specs.ItemTests.{items-cases};
+ghost use Rattle.ov_event.specs.Makers.{of_node, of_settler};
 ghost use Rattle.ov_event.specs.ValuedTests.{valueds-cases};
 ghost use Rattle.ov_functor.specs.CommandTests.{transaction-cases};
 ghost use Rattle.ov_functor.specs.PartTests.{parts-cases};
@@ -101,6 +103,20 @@ impl Plain for Kind {
 
     fn copy(&self) -> Result<Kind, Memory> {
         match self {
+            Kind::Published { time, vector } => Ok(Kind::Published {
+                time: *time,
+                vector: *vector,
+            }),
+            Kind::Heard { place, vector } => Ok(Kind::Heard {
+                place: *place,
+                vector: *vector,
+            }),
+            Kind::Stopped => Ok(Kind::Stopped),
+            Kind::Stored { .. } | Kind::Answered { .. } => copy_of_node(self),
+            Kind::Asked { .. }
+            | Kind::Taken { .. }
+            | Kind::Settled { .. }
+            | Kind::Resulted { .. } => copy_of_settler(self),
             Kind::Began {
                 session,
                 seq,
@@ -109,15 +125,6 @@ impl Plain for Kind {
                 session: *session,
                 seq: *seq,
                 start: start.copy()?,
-            }),
-            Kind::Stored {
-                place,
-                version,
-                items,
-            } => Ok(Kind::Stored {
-                place: *place,
-                version: *version,
-                items: items.copy()?,
             }),
             Kind::Acked {
                 place,
@@ -129,65 +136,6 @@ impl Plain for Kind {
                 version: *version,
                 centre: *centre,
                 part: *part,
-            }),
-            Kind::Published { time, vector } => Ok(Kind::Published {
-                time: *time,
-                vector: *vector,
-            }),
-            Kind::Heard { place, vector } => Ok(Kind::Heard {
-                place: *place,
-                vector: *vector,
-            }),
-            Kind::Asked {
-                round,
-                mode,
-                from,
-                below,
-            } => Ok(Kind::Asked {
-                round: *round,
-                mode: *mode,
-                from: *from,
-                below: *below,
-            }),
-            Kind::Answered {
-                place,
-                settler,
-                round,
-                items,
-            } => Ok(Kind::Answered {
-                place: *place,
-                settler: *settler,
-                round: *round,
-                items: items.copy()?,
-            }),
-            Kind::Taken {
-                place,
-                round,
-                centre,
-                part,
-                items,
-            } => Ok(Kind::Taken {
-                place: *place,
-                round: *round,
-                centre: *centre,
-                part: *part,
-                items: items.copy()?,
-            }),
-            Kind::Settled { values } => Ok(Kind::Settled {
-                values: values.copy()?,
-            }),
-            Kind::Resulted {
-                place,
-                session,
-                seq,
-                gate,
-                reply,
-            } => Ok(Kind::Resulted {
-                place: *place,
-                session: *session,
-                seq: *seq,
-                gate: *gate,
-                reply: reply.copy()?,
             }),
             Kind::Replied {
                 place,
@@ -209,7 +157,86 @@ impl Plain for Kind {
                 session: *session,
                 seq: *seq,
             }),
-            Kind::Stopped => Ok(Kind::Stopped),
         }
+    }
+}
+
+/// The copy of a kind that only nodes make.
+fn copy_of_node(kind: &Kind) -> Result<Kind, Memory>
+    requires { of_node kind.now ≡ true }
+    ensures { IfOk result (λ copied. copied ≡ kind.now) }
+{
+    match kind {
+        Kind::Stored {
+            place,
+            version,
+            items,
+        } => Ok(Kind::Stored {
+            place: *place,
+            version: *version,
+            items: items.copy()?,
+        }),
+        Kind::Answered {
+            place,
+            settler,
+            round,
+            items,
+        } => Ok(Kind::Answered {
+            place: *place,
+            settler: *settler,
+            round: *round,
+            items: items.copy()?,
+        }),
+        _ => unreachable!(),
+    }
+}
+
+/// The copy of a kind that only settlers make.
+fn copy_of_settler(kind: &Kind) -> Result<Kind, Memory>
+    requires { of_settler kind.now ≡ true }
+    ensures { IfOk result (λ copied. copied ≡ kind.now) }
+{
+    match kind {
+        Kind::Asked {
+            round,
+            mode,
+            from,
+            below,
+        } => Ok(Kind::Asked {
+            round: *round,
+            mode: *mode,
+            from: *from,
+            below: *below,
+        }),
+        Kind::Taken {
+            place,
+            round,
+            centre,
+            part,
+            items,
+        } => Ok(Kind::Taken {
+            place: *place,
+            round: *round,
+            centre: *centre,
+            part: *part,
+            items: items.copy()?,
+        }),
+        Kind::Settled { values } => Ok(Kind::Settled {
+            values: values.copy()?,
+        }),
+        Kind::Resulted {
+            place,
+            session,
+            seq,
+            gate,
+            reply,
+        } => Ok(Kind::Resulted {
+            place: *place,
+            session: *session,
+            seq: *seq,
+            gate: *gate,
+            reply: reply.copy()?,
+        }),
+        _ => unreachable!(),
     }
 }

@@ -1,6 +1,8 @@
 //! What an actor tells others.
+ghost use Rattle.std.specs.Prelude.{◌≡◌, true, IfOk};
 ghost use Rattle.ov_base.specs.Tests.{exact_tests};
 ghost use Rattle.ov_event.specs.ItemTests.{items-cases};
+ghost use Rattle.ov_event.specs.Makers.{from_node, from_settler};
 ghost use Rattle.ov_functor.specs.CommandTests.{transaction-cases};
 ghost use Rattle.ov_functor.specs.PartTests.{parts-cases};
 ghost use Rattle.ov_functor.specs.ShownTests.{showns-cases};
@@ -95,61 +97,83 @@ impl Plain for Letter {
                 gate: *gate,
                 start: start.copy()?,
             }),
-            Letter::Ack {
-                version,
-                centre,
-                part,
-            } => Ok(Letter::Ack {
-                version: *version,
-                centre: *centre,
-                part: *part,
-            }),
             Letter::Gossip { gate, vector } => Ok(Letter::Gossip {
                 gate: *gate,
                 vector: *vector,
-            }),
-            Letter::Ask {
-                settler,
-                round,
-                mode,
-                from,
-                below,
-            } => Ok(Letter::Ask {
-                settler: *settler,
-                round: *round,
-                mode: *mode,
-                from: *from,
-                below: *below,
-            }),
-            Letter::Answer {
-                settler,
-                round,
-                centre,
-                part,
-                items,
-            } => Ok(Letter::Answer {
-                settler: *settler,
-                round: *round,
-                centre: *centre,
-                part: *part,
-                items: items.copy()?,
-            }),
-            Letter::Result {
-                session,
-                seq,
-                gate,
-                reply,
-            } => Ok(Letter::Result {
-                session: *session,
-                seq: *seq,
-                gate: *gate,
-                reply: reply.copy()?,
             }),
             Letter::Told { session, seq, gate } => Ok(Letter::Told {
                 session: *session,
                 seq: *seq,
                 gate: *gate,
             }),
+            Letter::Ack { .. } | Letter::Answer { .. } => copy_of_node(self),
+            Letter::Ask { .. } | Letter::Result { .. } => copy_of_settler(self),
         }
+    }
+}
+
+/// The copy of a letter that only nodes write.
+fn copy_of_node(letter: &Letter) -> Result<Letter, Memory>
+    requires { from_node letter.now ≡ true }
+    ensures { IfOk result (λ copied. copied ≡ letter.now) }
+{
+    match letter {
+        Letter::Ack {
+            version,
+            centre,
+            part,
+        } => Ok(Letter::Ack {
+            version: *version,
+            centre: *centre,
+            part: *part,
+        }),
+        Letter::Answer {
+            settler,
+            round,
+            centre,
+            part,
+            items,
+        } => Ok(Letter::Answer {
+            settler: *settler,
+            round: *round,
+            centre: *centre,
+            part: *part,
+            items: items.copy()?,
+        }),
+        _ => unreachable!(),
+    }
+}
+
+/// The copy of a letter that only settlers write.
+fn copy_of_settler(letter: &Letter) -> Result<Letter, Memory>
+    requires { from_settler letter.now ≡ true }
+    ensures { IfOk result (λ copied. copied ≡ letter.now) }
+{
+    match letter {
+        Letter::Ask {
+            settler,
+            round,
+            mode,
+            from,
+            below,
+        } => Ok(Letter::Ask {
+            settler: *settler,
+            round: *round,
+            mode: *mode,
+            from: *from,
+            below: *below,
+        }),
+        Letter::Result {
+            session,
+            seq,
+            gate,
+            reply,
+        } => Ok(Letter::Result {
+            session: *session,
+            seq: *seq,
+            gate: *gate,
+            reply: reply.copy()?,
+        }),
+        _ => unreachable!(),
     }
 }

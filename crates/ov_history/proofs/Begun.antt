@@ -15,8 +15,8 @@ use Rattle.ov_event.specs.declared.entry.Entry.{Entry}
 use Rattle.ov_event.specs.declared.kind.Kind.{Kind}
 use Rattle.ov_event.specs.declared.kind.Kind.TheVariants.{Began}
 use Rattle.ov_event.specs.declared.start.Start.TheVariants.{Draw}
-use Rattle.ov_event.specs.Letters.{touches}
-use Rattle.ov_history.specs.Past.{History, is_gate}
+use Rattle.ov_event.specs.Letters.{touches, is_gate}
+use Rattle.ov_history.specs.Past.{History}
 use Rattle.ov_history.specs.Counts.{all_below}
 use Rattle.ov_history.specs.Placement.{stored, holders}
 use Rattle.ov_history.specs.Final.{Final, FinalAll}

@@ -9,11 +9,11 @@ use Rattle.ov_gossip.specs.declared.marks.Marks.{Marks}
 use Rattle.ov_topology.specs.Shape.{Shape, gates}
 use Rattle.ov_topology.specs.declared.actor.Actor.{Actor}
 use Rattle.ov_topology.specs.declared.actor.Actor.TheVariants.{Gate, Node, Settler}
-use Rattle.ov_event.specs.Letters.{touches, is_in}
+use Rattle.ov_event.specs.Letters.{touches, is_in, is_gate}
 use Rattle.ov_event.specs.declared.entry.Entry.{Entry}
 use Rattle.ov_event.specs.declared.kind.Kind.{Kind}
 use Rattle.ov_event.specs.declared.kind.Kind.TheVariants.{Acked}
-use Rattle.ov_history.specs.Past.{History, is_gate, is_node}
+use Rattle.ov_history.specs.Past.{History, is_node}
 use Rattle.ov_history.specs.Counts.{all_below}
 use Rattle.ov_history.specs.Draws.{Drawn, Drew, drawn_in, draw_of, last}
 use Rattle.ov_history.specs.Placement.{stores, stored, holders, acks, acked, ackers}

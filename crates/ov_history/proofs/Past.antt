@@ -9,10 +9,10 @@ use Rattle.ov_session.specs.Events.{greatest}
 use Rattle.ov_topology.specs.Shape.{Shape}
 use Rattle.ov_topology.specs.declared.actor.Actor.{Actor}
 use Rattle.ov_topology.specs.declared.place.Place.{Place}
-use Rattle.ov_event.specs.Letters.{letter_in}
+use Rattle.ov_event.specs.Letters.{letter_in, is_gate}
 use Rattle.ov_event.specs.declared.entry.Entry.{Entry}
 use Rattle.ov_event.specs.declared.letter.Letter.{Letter}
-use Rattle.ov_history.specs.Past.{History, at, before, some, tally, is_gate, is_node}
+use Rattle.ov_history.specs.Past.{History, at, before, some, tally, is_node}
 use Rattle.ov_history.specs.Letters.{letter, letter_from}
 use Rattle.ov_history.specs.Draws.{Drawn, Drew, last, time_by}
 use Rattle.ov_history.specs.Marks.{mark, mark_by}

@@ -9,12 +9,12 @@ use Rattle.ov_topology.specs.declared.actor.Actor.{Actor}
 use Rattle.ov_topology.specs.declared.actor.Actor.TheVariants.{Gate, Node, Settler}
 use Rattle.ov_topology.specs.declared.mode.Mode.{Mode}
 use Rattle.ov_topology.specs.declared.place.Place.{Place}
-use Rattle.ov_event.specs.Letters.{last_of, letter_in}
+use Rattle.ov_event.specs.Letters.{last_of, letter_in, is_settler}
 use Rattle.ov_event.specs.declared.entry.Entry.{Entry}
 use Rattle.ov_event.specs.declared.kind.Kind.{Kind}
 use Rattle.ov_event.specs.declared.kind.Kind.TheVariants as kinds
 use Rattle.ov_event.specs.declared.letter.Letter.TheVariants as letters
-use Rattle.ov_history.specs.Past.{History, at, before, is_settler}
+use Rattle.ov_history.specs.Past.{History, at, before}
 use Rattle.ov_history.specs.Nodes.{all_added, is_inside, held}
 use Rattle.ov_history.specs.Settlers.{Round, opened, open_round, rounds, takes, took, brought, harvest}
 use Rattle.ov_history.specs.May.{Setting, May, Lawful, MayAnswer, MayTake}

@@ -15,14 +15,14 @@ use Rattle.ov_topology.specs.declared.actor.Actor.TheVariants.{Gate, Node, Settl
 use Rattle.ov_topology.specs.declared.mode.Mode.{Mode}
 use Rattle.ov_topology.specs.declared.mode.Mode.TheVariants.{Quorum, One}
 use Rattle.ov_topology.specs.declared.place.Place.{Place}
-use Rattle.ov_event.specs.Letters.{touches}
+use Rattle.ov_event.specs.Letters.{touches, is_gate, is_settler}
 use Rattle.ov_event.specs.declared.entry.Entry.{Entry}
 use Rattle.ov_event.specs.declared.kind.Kind.{Kind}
 use Rattle.ov_event.specs.declared.kind.Kind.TheVariants.{Began, Stored, Acked, Published, Heard, Asked, Answered, Taken, Settled, Resulted, Replied, Told, Stopped}
 use Rattle.ov_event.specs.declared.letter.Letter.{Letter}
 use Rattle.ov_event.specs.declared.start.Start.{Start}
 use Rattle.ov_event.specs.declared.start.Start.TheVariants.{Draw, Look}
-use Rattle.ov_history.specs.Past.{History, at, some, is_gate, is_node, is_settler, same_actor, stopped}
+use Rattle.ov_history.specs.Past.{History, at, some, is_node, same_actor, stopped}
 use Rattle.ov_history.specs.Letters.{letter, letter_from, Takes}
 use Rattle.ov_history.specs.Counts.{any_below, all_below, passing, weight, least_of}
 use Rattle.ov_history.specs.Draws.{Drawn, draw_of, last}

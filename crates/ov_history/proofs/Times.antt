@@ -12,12 +12,12 @@ use Rattle.ov_gossip.specs.declared.marks.Marks.{Marks}
 use Rattle.ov_topology.specs.Shape.{Shape, IsShape, gates}
 use Rattle.ov_topology.specs.declared.actor.Actor.{Actor}
 use Rattle.ov_topology.specs.declared.actor.Actor.TheVariants.{Gate, Node, Settler}
-use Rattle.ov_event.specs.Letters.{is_in}
+use Rattle.ov_event.specs.Letters.{is_in, is_gate}
 use Rattle.ov_event.specs.declared.entry.Entry.{Entry}
 use Rattle.ov_event.specs.declared.kind.Kind.{Kind}
 use Rattle.ov_event.specs.declared.kind.Kind.TheVariants.{Began, Published, Heard}
 use Rattle.ov_event.specs.declared.start.Start.TheVariants.{Draw}
-use Rattle.ov_history.specs.Past.{History, at, tally, is_gate, same_actor}
+use Rattle.ov_history.specs.Past.{History, at, tally, same_actor}
 use Rattle.ov_history.specs.Draws.{Drawn, drawn_in, time_in, last, moves_clock}
 use Rattle.ov_history.specs.Marks.{mark, mark_in, top_time, lacks_quorum, lowest, own_marks}
 use Rattle.ov_history.specs.May.{Setting, IsTime, StartsAs, Guard, Lawful}

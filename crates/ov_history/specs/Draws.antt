@@ -9,7 +9,8 @@ use Rattle.ov_event.specs.declared.kind.Kind.{Kind}
 use Rattle.ov_event.specs.declared.kind.Kind.TheVariants.{Began, Published}
 use Rattle.ov_event.specs.declared.start.Start.{Start}
 use Rattle.ov_event.specs.declared.start.Start.TheVariants.{Draw, Look}
-use Rattle.ov_history.specs.Past.{History, is_gate}
+use Rattle.ov_event.specs.Letters.{is_gate}
+use Rattle.ov_history.specs.Past.{History}
 
 -- A begun transaction: its command, its version and its parts.
 pub record Drawn : Type 0 where

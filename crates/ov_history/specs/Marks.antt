@@ -7,11 +7,11 @@ use Rattle.ov_gossip.specs.Marks.{mark_at, low_of, full_of, done_of}
 use Rattle.ov_gossip.specs.declared.marks.Marks.{Marks}
 use Rattle.ov_topology.specs.Shape.{Shape, gates}
 use Rattle.ov_topology.specs.declared.actor.Actor.{Actor}
-use Rattle.ov_event.specs.Letters.{touches}
+use Rattle.ov_event.specs.Letters.{touches, is_gate}
 use Rattle.ov_event.specs.declared.entry.Entry.{Entry}
 use Rattle.ov_event.specs.declared.kind.Kind.{Kind}
 use Rattle.ov_event.specs.declared.kind.Kind.TheVariants.{Published, Heard, Replied}
-use Rattle.ov_history.specs.Past.{History, some, is_gate, same_actor}
+use Rattle.ov_history.specs.Past.{History, some, same_actor}
 use Rattle.ov_history.specs.Counts.{any_below, all_below, least_of}
 use Rattle.ov_history.specs.Draws.{Drawn, draw_of}
 use Rattle.ov_history.specs.Placement.{acked, ackers}

@@ -5,6 +5,7 @@ use Rattle.ov_topology.specs.declared.actor.Actor.TheVariants.{Gate, Node, Settl
 use Rattle.ov_event.specs.declared.entry.Entry.{Entry}
 use Rattle.ov_event.specs.declared.kind.Kind.{Kind}
 use Rattle.ov_event.specs.declared.kind.Kind.TheVariants.{Stopped}
+use Rattle.ov_event.specs.Letters.{is_gate, is_settler}
 
 -- the entries up to now, the newest first
 abbrev pub History : Type 0
@@ -32,20 +33,11 @@ tally f (e ∷ h) = (if f e then 1 else 0) + tally f h
 
 -- ---- whose entry it is
 
-abbrev pub is_gate : ℕ → Actor → Bool
-is_gate g (Gate other) = other == g
-is_gate g (Node c p) = false
-is_gate g (Settler s) = false
-
+-- whether the actor is this node
 abbrev pub is_node : ℕ → ℕ → Actor → Bool
 is_node c p (Gate g) = false
 is_node c p (Node d q) = if d == c then q == p else false
 is_node c p (Settler s) = false
-
-abbrev pub is_settler : ℕ → Actor → Bool
-is_settler s (Gate g) = false
-is_settler s (Node c p) = false
-is_settler s (Settler other) = other == s
 
 -- whether the two are one actor
 abbrev pub same_actor : Actor → Actor → Bool
@@ -55,6 +47,7 @@ same_actor (Settler s) b = is_settler s b
 
 -- ---- stopped actors
 
+-- whether the actor stops by such an entry
 abbrev pub stops : Kind → Bool
 stops Stopped = true
 stops other = false

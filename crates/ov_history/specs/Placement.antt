@@ -3,7 +3,8 @@ use Rattle.std.specs.Prelude.{◌==◌, ℕ, Bool, false, ◌&&◌, if◌then◌
 use Rattle.ov_topology.specs.Shape.{Shape}
 use Rattle.ov_event.specs.declared.kind.Kind.{Kind}
 use Rattle.ov_event.specs.declared.kind.Kind.TheVariants.{Stored, Acked}
-use Rattle.ov_history.specs.Past.{History, some, is_gate, is_node}
+use Rattle.ov_event.specs.Letters.{is_gate}
+use Rattle.ov_history.specs.Past.{History, some, is_node}
 use Rattle.ov_history.specs.Counts.{weight}
 
 -- whether an entry stores the version

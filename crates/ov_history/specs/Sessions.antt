@@ -5,7 +5,8 @@ use Rattle.ov_session.specs.Events as events
 use Rattle.ov_event.specs.declared.entry.Entry.{Entry}
 use Rattle.ov_event.specs.declared.kind.Kind.{Kind}
 use Rattle.ov_event.specs.declared.kind.Kind.TheVariants.{Began, Replied, Told}
-use Rattle.ov_history.specs.Past.{History, is_gate}
+use Rattle.ov_event.specs.Letters.{is_gate}
+use Rattle.ov_history.specs.Past.{History}
 
 -- what an entry says of a session
 abbrev pub events_in : Kind → List Event

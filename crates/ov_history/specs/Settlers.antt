@@ -15,7 +15,8 @@ use Rattle.ov_event.specs.declared.kind.Kind.{Kind}
 use Rattle.ov_event.specs.declared.kind.Kind.TheVariants.{Asked, Taken, Settled}
 use Rattle.ov_event.specs.declared.start.Start.{Start}
 use Rattle.ov_event.specs.declared.start.Start.TheVariants.{Draw, Look}
-use Rattle.ov_history.specs.Past.{History, some, tally, is_settler}
+use Rattle.ov_event.specs.Letters.{is_settler}
+use Rattle.ov_history.specs.Past.{History, some, tally}
 use Rattle.ov_history.specs.Counts.{weight}
 use Rattle.ov_history.specs.Nodes.{all_added}
 

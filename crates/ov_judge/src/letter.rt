@@ -1,9 +1,9 @@
 //! The letters of a history: which one stands at a place, and to whom it is addressed.
 ghost use Rattle.std.specs.Prelude.{◌≡◌, get_or, IfOk, IsTrue, ◌↔◌};
-ghost use Rattle.ov_event.specs.Letters.{is_for, is_gate as addresses_gate, is_other_gate, is_node_of, is_settler as addresses_settler, hears, is_asked};
+ghost use Rattle.ov_event.specs.Letters.{is_for, is_gate, is_other_gate, is_node_of, is_settler, hears, is_asked};
 ghost use Rattle.ov_history.specs.Letters.{letter, Takes};
 
-use crate::past::at;
+use crate::past::{at, is_gate, is_settler};
 use ov_base::{Memory, same};
 use ov_event::{Entry, Letter, letter_of};
 use ov_topology::{Actor, Mode, Place, Topology};
@@ -68,16 +68,6 @@ fn centre_of(topology: &Topology, gate: u32) -> u32
     }
 }
 
-fn is_gate(gate: u32, actor: Actor) -> bool
-    ensures { result ≡ addresses_gate gate actor }
-{
-    match actor {
-        Actor::Gate(other) => other == gate,
-        Actor::Node { .. } => false,
-        Actor::Settler(_) => false,
-    }
-}
-
 fn is_other_gate(gate: u32, actor: Actor) -> bool
     ensures { result ≡ is_other_gate gate actor }
 {
@@ -95,16 +85,6 @@ fn is_node_of(part: u32, actor: Actor) -> bool
         Actor::Node { part: other, .. } => other == part,
         Actor::Gate(_) => false,
         Actor::Settler(_) => false,
-    }
-}
-
-fn is_settler(centre: u32, actor: Actor) -> bool
-    ensures { result ≡ addresses_settler centre actor }
-{
-    match actor {
-        Actor::Settler(other) => other == centre,
-        Actor::Gate(_) => false,
-        Actor::Node { .. } => false,
     }
 }
 

@@ -1,8 +1,7 @@
 //! The marks that a gateway publishes of its own versions.
 ghost use Rattle.std.specs.Prelude.{◌≡◌, ℕ, ◌<◌, ◌^◌, ◌&&◌, not, false, nat_lt, if◌then◌else◌, IfOk};
 ghost use Rattle.std.specs.List.{list_any};
-ghost use Rattle.ov_event.specs.Letters.{is_kept, part_touches, touches};
-ghost use Rattle.ov_history.specs.Past.{is_gate};
+ghost use Rattle.ov_event.specs.Letters.{is_kept, part_touches, touches, is_gate};
 ghost use Rattle.ov_history.specs.Counts.{any_below, all_below};
 ghost use Rattle.ov_history.specs.Draws.{draw_of, drawn_in, drawn_by};
 ghost use Rattle.ov_history.specs.Marks.{lacks_quorum, lacks_copies, lacks_reply, replies, replied_to, lowered, lowest, own_marks};

@@ -1,7 +1,8 @@
 //! The entries of a history by their numbers, whose they are, and which actors have stopped.
 ghost use Rattle.std.specs.Prelude.{◌≡◌, false, if◌then◌else◌};
 ghost use Rattle.std.specs.Option.{option_map};
-ghost use Rattle.ov_history.specs.Past.{at, is_gate, is_node, is_settler, same_actor, stops, stopped};
+ghost use Rattle.ov_event.specs.Letters.{is_gate, is_settler};
+ghost use Rattle.ov_history.specs.Past.{at, is_node, same_actor, stops, stopped};
 
 use ov_event::{Entry, Kind};
 use ov_topology::Actor;

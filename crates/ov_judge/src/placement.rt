@@ -1,6 +1,6 @@
 //! Which nodes have acknowledged a version.
 ghost use Rattle.std.specs.Prelude.{◌≡◌, false, if◌then◌else◌, IfOk};
-ghost use Rattle.ov_history.specs.Past.{is_gate};
+ghost use Rattle.ov_event.specs.Letters.{is_gate};
 ghost use Rattle.ov_history.specs.Placement.{acks, acked, ackers};
 
 use crate::past::is_gate;

@@ -1,7 +1,7 @@
 //! The rounds of a settler: which one is open, how many there were, how far they settled, and who has answered.
 ghost use Rattle.std.specs.Prelude.{◌≡◌, ◌≤◌, ◌<◌, ℕ, false, length, if◌then◌else◌, IfOk, IsTrue, ◌↔◌};
 ghost use Rattle.std.specs.Option.{option_map};
-ghost use Rattle.ov_history.specs.Past.{is_settler};
+ghost use Rattle.ov_event.specs.Letters.{is_settler};
 ghost use Rattle.ov_history.specs.Counts.{weight};
 ghost use Rattle.ov_history.specs.Settlers.{opened, open_round, asks, rounds, upper_end, raised, settled, takes, took, IsEnough};
 ghost use Rattle.ov_judge.specs.Rounds.{as_round, is_current};

@@ -6,7 +6,8 @@ use Rattle.std.specs.Cmp.Lexicographic.{slice_cmp}
 use Rattle.std.proofs.lemmas.Grind.{common_steps}
 use Rattle.ov_functor.specs.declared.item.Item.{Item}
 use Rattle.ov_functor.specs.Windows.{Among, Descends}
-use Rattle.ov_history.specs.Past.{History, is_settler}
+use Rattle.ov_event.specs.Letters.{is_settler}
+use Rattle.ov_history.specs.Past.{History}
 use Rattle.ov_history.specs.Nodes.{same_place, precedes, added, all_added}
 use Rattle.ov_history.specs.Settlers.{brought, harvest, backwards}
 use Rattle.ov_functor.proofs.Among.{among_front, among_back, among_either}

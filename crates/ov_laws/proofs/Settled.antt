@@ -18,7 +18,8 @@ use Rattle.ov_topology.specs.declared.mode.Mode.TheVariants.{Quorum, One}
 use Rattle.ov_event.specs.declared.entry.Entry.{Entry}
 use Rattle.ov_event.specs.declared.kind.Kind.{Kind}
 use Rattle.ov_event.specs.declared.kind.Kind.TheVariants.{Asked, Settled}
-use Rattle.ov_history.specs.Past.{History, at, is_settler}
+use Rattle.ov_event.specs.Letters.{is_settler}
+use Rattle.ov_history.specs.Past.{History, at}
 use Rattle.ov_history.specs.Draws.{last}
 use Rattle.ov_history.specs.Final.{IsClosed}
 use Rattle.ov_history.specs.Marks.{mark, mark_by, visible}
