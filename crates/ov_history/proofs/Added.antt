@@ -8,7 +8,7 @@ use Rattle.ov_functor.specs.Functor.{functor_of}
 use Rattle.ov_functor.specs.Items.{keys_in, written_keys, item_by, items_at, items_of}
 use Rattle.ov_functor.specs.Placeholder.{Placeholder}
 use Rattle.ov_functor.specs.Windows.{Among, HasItem}
-use Rattle.ov_functor.proofs.Among.{among_front, among_back, among_either}
+use Rattle.ov_functor.proofs.Among.{among_back, among_either}
 use Rattle.ov_functor.specs.declared.item.Item.{Item}
 use Rattle.ov_functor.specs.declared.part.Part.{Part}
 use Rattle.ov_topology.specs.Shape.{Shape, place_of}

@@ -21,9 +21,9 @@ use Rattle.ov_history.specs.Marks.{mark, mark_by, visible, replicated, watermark
 use Rattle.ov_history.specs.May.{Setting, Guard, May, Lawful}
 use Rattle.ov_history.specs.Final.{Final, FinalAll}
 use Rattle.ov_history.proofs.Gathered.{greatest_grows}
-use Rattle.ov_history.proofs.Past.{some_at}
+use Rattle.ov_history.proofs.Past.{some_at, letter_at}
 use Rattle.ov_history.proofs.Counting.{none_below, none_passes, all_grow, weight_grows, least_under}
-use Rattle.ov_history.proofs.Sent.{ack_sent, letter_there}
+use Rattle.ov_history.proofs.Sent.{ack_sent}
 use Rattle.ov_history.proofs.Watermarks.{IsMark, Good, marks_good, draw_late}
 
 -- ---- acknowledgements
@@ -40,7 +40,7 @@ stored_stays c p v e h yet = grind (arith, common_steps)
 acked_new : (t : Setting) (h : History) (a : Actor) (k : Kind) → Guard t h a k → (g v c p : ℕ)
     → (if is_gate g a then acks v c p k else false) ≡ true → stored c p v h ≡ true
 acked_new t h (Gate s) (Acked place u d q) guard g v c p is =
-    let there = letter_there t.topology h place _ guard.there in
+    let there = letter_at t.topology h place.entry place.letter _ guard.there in
     let sent = ack_sent t.topology there.0 place.letter u d q there.2 in
     let same : (if is_node c p there.0.actor then stores v there.0.kind else false) ≡ true = rw sent.2 (grind (arith, common_steps)) in
     some_at (λ e. if is_node c p e.actor then stores v e.kind else false) h place.entry there.0 there.1 same

@@ -1,4 +1,4 @@
--- What may follow is given by its actor for an act.
+-- What may follow is given by its actor for the act that it answers.
 use Rattle.std.proofs.Common.{◌≡◌, ◌==◌, ℕ, ◌+◌, ◌≤◌, ◌<◌, ◌^◌, min, max, Bool, true, inl, inr, ◌⊎◌, Some, List, [], ◌∷◌, length, refl, sym, ap, subst, ◌∙◌, arith, zero, suc}
 use Rattle.std.specs.List.{AllByRecursion, list_all}
 use Rattle.std.proofs.lemmas.Bool.{lt-ltb, le-leb}
@@ -36,8 +36,7 @@ use Rattle.ov_history.specs.Marks.{top_time}
 use Rattle.ov_history.specs.Sessions.{events_of}
 use Rattle.ov_history.specs.Settlers.{Round, open_round, rounds, settled, took, IsEnough, known_below, Shows}
 use Rattle.ov_history.specs.May.{Setting, IsTime, StartsAs, MayStart, MayPublish, MayReply, upper, MayAsk, MayTake, MaySettle, Guard, May}
-use Rattle.ov_history.specs.Gives.{Act, clock_end, timed, time_at, is_known, ready, start_of, begins, vector_to, publishes, is_own, is_open, asks, is_enough, settles, is_current, reply_to, settler_takes, takes_as, takes, acts, gives}
-use Rattle.ov_history.specs.Gives as given
+use Rattle.ov_history.specs.Gives.{clock_end, timed, time_at, is_known, ready, start_of, begins, vector_to, publishes, is_open, asks, is_enough, settles, is_current, reply_to, takes_as, takes, acts, gives, clock_of, act_of}
 use Rattle.ov_history.proofs.Given.{vector_length, vector_at}
 
 -- equal numbers pass the test
@@ -71,11 +70,6 @@ known_waited g h (after ∷ waited) all = rw (le-leb after.seq (known after.sess
 pub may_ready : (t : Setting) (h : History) (g s c : ℕ) (m : MayBegin t.roster g (events_of g h) s c) → ready t h g s ≡ Some m.planned
 may_ready t h g s c m =
     rw (m.session, eqb_is m.plan.gate g m.own, eqb_is (begun s (events_of g h)) (replied s (events_of g h)) m.idle, m.further, known_waited g h m.planned.after m.waited) refl
-
--- the reading at which a start is given
-abbrev pub clock_of : Start → ℕ
-clock_of (Draw version transaction) = time_of version
-clock_of (Look least keys) = 0
 
 -- a version is made of its time and its gateway
 version_back : (version g : ℕ) → gate_of version ≡ g → number (time_of version) g ≡ version
@@ -168,19 +162,19 @@ shows_reply h s (Look least keys) reply shows = rw (le-leb least (settled s h) s
 
 -- ---- all actors
 
--- The actor gives the kind for some act.
+-- The actor gives the kind for its act.
 abbrev IsGiven : Setting → History → Actor → Kind → Type 0
-IsGiven t h actor kind = (act : Act) × (acts t h actor act ≡ Some kind)
+IsGiven t h actor kind = acts t h actor (act_of kind) ≡ Some kind
 
--- what a gateway may do it does for some act
+-- what a gateway may do it does for its act
 gate_given : (t : Setting) (h : History) (g : ℕ) (kind : Kind) → Guard t h (Gate g) kind → IsGiven t h (Gate g) kind
-gate_given t h g (kinds.Began s c start) may = (given.Begin s (clock_of start), may_begins t h g s c start may)
-gate_given t h g (kinds.Acked place version c p) may = (given.Take place, take_again t h (Gate g) place (letters.Ack version c p) _ may refl)
-gate_given t h g (kinds.Published time vector) may = (given.Publish time, may_publishes t.topology h g time vector may)
-gate_given t h g (kinds.Heard place vector) may = (given.Take place, take_again t h (Gate g) place (letters.Gossip may.sender vector) _ may.sent refl)
-gate_given t h g (kinds.Replied place s c reply) may = (given.Take place, take_again t h (Gate g) place (letters.Result s c g reply) _ may.sent (rw (may_open t h g s c place reply may) refl))
-gate_given t h g (kinds.Told place s c) may = (given.Take place, take_again t h (Gate g) place (letters.Told s c may.sender) _ may.sent refl)
-gate_given t h g kinds.Stopped may = (given.Stop, refl)
+gate_given t h g (kinds.Began s c start) may = may_begins t h g s c start may
+gate_given t h g (kinds.Acked place version c p) may = take_again t h (Gate g) place (letters.Ack version c p) _ may refl
+gate_given t h g (kinds.Published time vector) may = may_publishes t.topology h g time vector may
+gate_given t h g (kinds.Heard place vector) may = take_again t h (Gate g) place (letters.Gossip may.sender vector) _ may.sent refl
+gate_given t h g (kinds.Replied place s c reply) may = take_again t h (Gate g) place (letters.Result s c g reply) _ may.sent (rw (may_open t h g s c place reply may) refl)
+gate_given t h g (kinds.Told place s c) may = take_again t h (Gate g) place (letters.Told s c may.sender) _ may.sent refl
+gate_given t h g kinds.Stopped may = refl
 gate_given t h g (kinds.Stored place version items) may = absurd may
 gate_given t h g (kinds.Asked round mode from below) may = absurd may
 gate_given t h g (kinds.Answered place settler round items) may = absurd may
@@ -188,12 +182,12 @@ gate_given t h g (kinds.Taken place round c p items) may = absurd may
 gate_given t h g (kinds.Settled values) may = absurd may
 gate_given t h g (kinds.Resulted place s c gate reply) may = absurd may
 
--- what a node may do it does for some act
+-- what a node may do it does for its act
 node_given : (t : Setting) (h : History) (c p : ℕ) (kind : Kind) → Guard t h (Node c p) kind → IsGiven t h (Node c p) kind
-node_given t h c p (kinds.Stored place version items) may = (given.Take place, take_again t h (Node c p) place (letters.Write version p items) _ may refl)
+node_given t h c p (kinds.Stored place version items) may = take_again t h (Node c p) place (letters.Write version p items) _ may refl
 node_given t h c p (kinds.Answered place settler round items) may =
-    (given.Take place, take_again t h (Node c p) place (letters.Ask settler round may.mode may.from may.below) _ may.sent (ap (λ x. Some (kinds.Answered place settler round x)) (sym may.all)))
-node_given t h c p kinds.Stopped may = (given.Stop, refl)
+    take_again t h (Node c p) place (letters.Ask settler round may.mode may.from may.below) _ may.sent (ap (λ x. Some (kinds.Answered place settler round x)) (sym may.all))
+node_given t h c p kinds.Stopped may = refl
 node_given t h c p (kinds.Began s seq start) may = absurd may
 node_given t h c p (kinds.Acked place version centre part) may = absurd may
 node_given t h c p (kinds.Published time vector) may = absurd may
@@ -205,16 +199,16 @@ node_given t h c p (kinds.Resulted place s seq gate reply) may = absurd may
 node_given t h c p (kinds.Replied place s seq reply) may = absurd may
 node_given t h c p (kinds.Told place s seq) may = absurd may
 
--- what a settler may do it does for some act
+-- what a settler may do it does for its act
 settler_given : (t : Setting) (h : History) (s : ℕ) (kind : Kind) → Guard t h (Settler s) kind → IsGiven t h (Settler s) kind
-settler_given t h s (kinds.Heard place vector) may = (given.Take place, take_again t h (Settler s) place (letters.Gossip may.sender vector) _ may.sent refl)
-settler_given t h s (kinds.Asked round mode from below) may = (given.Ask mode, may_asks t.topology h s round mode from below may)
+settler_given t h s (kinds.Heard place vector) may = take_again t h (Settler s) place (letters.Gossip may.sender vector) _ may.sent refl
+settler_given t h s (kinds.Asked round mode from below) may = may_asks t.topology h s round mode from below may
 settler_given t h s (kinds.Taken place round c p items) may =
-    (given.Take place, take_again t h (Settler s) place (letters.Answer s round c p items) _ may.sent (rw (may_current t.topology h place s round c p items may) refl))
-settler_given t h s (kinds.Settled values) may = (given.Settle, may_settles t.topology h s values may)
+    take_again t h (Settler s) place (letters.Answer s round c p items) _ may.sent (rw (may_current t.topology h place s round c p items may) refl)
+settler_given t h s (kinds.Settled values) may = may_settles t.topology h s values may
 settler_given t h s (kinds.Resulted place session seq gate reply) may =
-    (given.Take place, take_again t h (Settler s) place (letters.Want session seq gate may.start) _ may.sent (rw (shows_reply h s may.start reply may.shows) refl))
-settler_given t h s kinds.Stopped may = (given.Stop, refl)
+    take_again t h (Settler s) place (letters.Want session seq gate may.start) _ may.sent (rw (shows_reply h s may.start reply may.shows) refl)
+settler_given t h s kinds.Stopped may = refl
 settler_given t h s (kinds.Began session seq start) may = absurd may
 settler_given t h s (kinds.Stored place version items) may = absurd may
 settler_given t h s (kinds.Acked place version centre part) may = absurd may
@@ -223,14 +217,12 @@ settler_given t h s (kinds.Answered place settler round items) may = absurd may
 settler_given t h s (kinds.Replied place session seq reply) may = absurd may
 settler_given t h s (kinds.Told place session seq) may = absurd may
 
--- what an actor may do it does for some act
+-- what an actor may do it does for its act
 guard_given : (t : Setting) (h : History) (actor : Actor) (kind : Kind) → Guard t h actor kind → IsGiven t h actor kind
 guard_given t h (Gate g) kind may = gate_given t h g kind may
 guard_given t h (Node c p) kind may = node_given t h c p kind may
 guard_given t h (Settler s) kind may = settler_given t h s kind may
 
--- what may follow is given by its actor for some act
-pub may_given : (t : Setting) (h : History) (e : Entry) → May t h e → (act : Act) × (gives t h e.actor act ≡ Some e)
-may_given t h e may =
-    let done = guard_given t h e.actor e.kind may.guard in
-    (done.0, rw (may.known, may.running, done.1) refl)
+-- what may follow is given by its actor for its act
+pub may_given : (t : Setting) (h : History) (e : Entry) → May t h e → gives t h e.actor (act_of e.kind) ≡ Some e
+may_given t h e may = rw (may.known, may.running, guard_given t h e.actor e.kind may.guard) refl

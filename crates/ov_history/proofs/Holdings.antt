@@ -25,8 +25,7 @@ use Rattle.ov_history.specs.Placement.{stores, stored}
 use Rattle.ov_history.specs.Nodes.{stored_in, stored_by, all_added, held}
 use Rattle.ov_history.specs.May.{Setting, Guard, Lawful}
 use Rattle.ov_history.specs.Serial.{begun_at}
-use Rattle.ov_history.proofs.Sent.{letter_there}
-use Rattle.ov_history.proofs.Past.{drew_before}
+use Rattle.ov_history.proofs.Past.{drew_before, letter_at}
 use Rattle.ov_history.proofs.Begun.{begun_is_drawn, drew_is_begun}
 use Rattle.ov_history.proofs.Writers.{write_sent}
 use Rattle.ov_history.proofs.Added.{all_added_comes, all_added_has, has_keeps, by_key_has, by_key_comes, items_in_has, items_in_comes, items_fit}
@@ -68,7 +67,7 @@ record IsWrite (t : Shape) (h : History) (version part : ℕ) (items : List Item
 -- a write of a lawful history is that of a begun transaction
 write_is_begun : (t : Setting) (h : History) (place : Place) (version part : ℕ) (items : List Item) → Lawful t h → letter t.topology h place ≡ Some (Write version part items) → IsWrite t.topology h version part items
 write_is_begun t h place version part items lawful is =
-    let there = letter_there t.topology h place (Write version part items) is in
+    let there = letter_at t.topology h place.entry place.letter (Write version part items) is in
     let sent = write_sent t.topology there.0 place.letter version part items there.2 in
     let entry_there : at h place.entry ≡ Some (record { actor = Gate sent.gate; kind = Began sent.session sent.seq (Draw version sent.transaction) }) = there.1 ∙ ap (λ (e : Entry). Some e) sent.entry_is in
     let drew = drew_there h place.entry sent.gate sent.session sent.seq version sent.transaction entry_there in

@@ -21,3 +21,4 @@ pub mod Rounds
 pub mod Meets
 pub mod Harvests
 pub mod Publications
+pub mod Cores

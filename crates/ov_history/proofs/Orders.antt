@@ -20,7 +20,8 @@ use Rattle.ov_history.specs.Marks.{mark, mark_in, mark_by, visible, replicated, 
 use Rattle.ov_history.specs.May.{Setting, Guard, Lawful, MayHear}
 use Rattle.ov_history.proofs.Gathered.{greatest_less}
 use Rattle.ov_history.proofs.Counting.{weight_of_all, least_less}
-use Rattle.ov_history.proofs.Sent.{gossip_sent, letter_there}
+use Rattle.ov_history.proofs.Past.{letter_at}
+use Rattle.ov_history.proofs.Sent.{gossip_sent}
 use Rattle.ov_history.proofs.Watermarks.{lowest_less, mark_past}
 use Rattle.ov_history.proofs.Finals.{quorum_by, copies_there}
 
@@ -53,7 +54,7 @@ known_in_order h order a g = greatest_less (mark_by full_of a g) (mark_by low_of
 heard_in_order : (t : Shape) (h : History) (a : Actor) (place : Place) (vector : List Marks) → InOrder h
     → MayHear t h place a vector → (g : ℕ) → full_of (mark_at vector g) ≤ low_of (mark_at vector g)
 heard_in_order t h a place vector order may g =
-    let there = letter_there t h place _ may.sent.there in
+    let there = letter_at t h place.entry place.letter _ may.sent.there in
     let sent = gossip_sent t there.0 place.letter may.sender vector there.2 in
     rw sent.1 at (order place.entry there.0 there.1 g)
 

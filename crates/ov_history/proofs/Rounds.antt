@@ -19,8 +19,8 @@ use Rattle.ov_history.specs.Nodes.{all_added, is_inside, held}
 use Rattle.ov_history.specs.Settlers.{Round, opened, open_round, rounds, takes, took, brought, harvest}
 use Rattle.ov_history.specs.May.{Setting, May, Lawful, MayAnswer, MayTake}
 use Rattle.ov_history.specs.Serial.{InWindow}
-use Rattle.ov_history.proofs.Sent.{letter_is_last, letter_there}
-use Rattle.ov_history.proofs.Past.{lawful_at, lawful_before, at_before, at_older, at_newest, before_before, held_before}
+use Rattle.ov_history.proofs.Sent.{letter_is_last}
+use Rattle.ov_history.proofs.Past.{lawful_at, lawful_before, at_before, at_older, at_newest, before_before, held_before, letter_at}
 use Rattle.ov_history.proofs.Added.{all_added_comes, all_added_has, has_keeps, filter_keeps, filter_comes}
 use Rattle.ov_history.proofs.Holdings.{begun_before, held_is_begun}
 
@@ -158,7 +158,7 @@ taken_by s n c p place items = record { actor = Settler s; kind = kinds.Taken pl
 answer_tells : (t : Setting) (h : History) (k j s : ℕ) (round : Round) (c p : ℕ) (place : Place) (items : List Item) → Lawful t h → at h k ≡ Some (asked_by s round)
     → MayAnswer t.topology (before j h) place c p s round.number items → Tells h k c p round items
 answer_tells t h k j s round c p place items lawful ask may =
-    let question = letter_there t.topology (before j h) place _ may.sent.there in
+    let question = letter_at t.topology (before j h) place.entry place.letter _ may.sent.there in
     let asking : Round = record { number = round.number; mode = may.mode; from = may.from; below = may.below } in
     let sent : question.0 ≡ asked_by s asking = ask_sent t.topology question.0 place.letter s round.number may.mode may.from may.below question.2 in
     let i = place.entry in
@@ -196,7 +196,7 @@ pub taken_tells : (t : Setting) (h : History) (k number s : ℕ) (round : Round)
     → at h number ≡ Some (taken_by s round.number c p place items) → Tells h k c p round items
 taken_tells t h k number s round c p place items lawful ask there =
     let take : MayTake t.topology (before number h) place s round.number c p items = (lawful_at t h number (taken_by s round.number c p place items) lawful there).guard in
-    let answering = letter_there t.topology (before number h) place _ take.sent.there in
+    let answering = letter_at t.topology (before number h) place.entry place.letter _ take.sent.there in
     let sent = answer_sent t.topology answering.0 place.letter s round.number c p items answering.2 in
     let answered_by : Entry = record { actor = Node c p; kind = kinds.Answered sent.0 s round.number items } in
     let answered : at h place.entry ≡ Some answered_by = at_before h number place.entry answered_by (answering.1 ∙ ap (λ (e : Entry). Some e) sent.1) in

@@ -16,8 +16,6 @@ use Rattle.ov_event.specs.declared.letter.Letter.{Letter}
 use Rattle.ov_event.specs.declared.letter.Letter.TheVariants as letters
 use Rattle.ov_event.specs.declared.start.Start.TheVariants as starts
 use Rattle.ov_event.specs.Letters.{write_of, touched, last_of, listed, letters_of, letter_in}
-use Rattle.ov_history.specs.Past.{History, at}
-use Rattle.ov_history.specs.Letters.{letter, letter_from}
 
 -- whether a letter is a write
 abbrev pub is_write : Letter → Bool
@@ -88,13 +86,3 @@ ack_sent t e number version centre part is = by e.actor e.kind (letter_is_last t
     by (Settler s) (kinds.Asked round mode from below) last = absurd (cc)
     by (Settler s) (kinds.Resulted place session seq gate reply) last = absurd (cc)
     by a k last = absurd (cc)
-
--- a letter at a place was made by the entry there
-pub letter_there : (t : Shape) (h : History) (place : Place) (sent : Letter) → letter t h place ≡ Some sent
-    → (e : Entry) × (at h place.entry ≡ Some e) × (letter_in t e place.letter ≡ Some sent)
-letter_there t h place sent is = by (at h place.entry) refl is
-  where
-    by : (o : Option Entry) → at h place.entry ≡ o → letter_from t o place.letter ≡ Some sent
-        → (e : Entry) × (at h place.entry ≡ Some e) × (letter_in t e place.letter ≡ Some sent)
-    by None there from = absurd (cc)
-    by (Some e) there from = (e, there, from)

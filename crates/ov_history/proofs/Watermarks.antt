@@ -22,8 +22,8 @@ use Rattle.ov_history.specs.Past.{History, same_actor}
 use Rattle.ov_history.specs.Draws.{Drawn, Drew, draw_of, last}
 use Rattle.ov_history.specs.Marks.{mark, mark_in, mark_by, marks, lowest, lowered, own_marks}
 use Rattle.ov_history.specs.May.{Setting, Guard, Lawful, StartsAs, MayPublish, MayHear}
-use Rattle.ov_history.proofs.Past.{greatest_at}
-use Rattle.ov_history.proofs.Sent.{gossip_sent, letter_there}
+use Rattle.ov_history.proofs.Past.{greatest_at, letter_at}
+use Rattle.ov_history.proofs.Sent.{gossip_sent}
 
 -- a version of a gateway is not below the number of a time that it reaches
 number_under : (g version least : ℕ) → gate_of version ≡ g → least ≤ time_of version → number least g ≤ version
@@ -158,7 +158,7 @@ good_own {lacks} {which} t is h g time vector may = record {
 pub heard_mark : (which : Marks → ℕ) (t : Shape) (h : History) (place : Place) (a : Actor) (vector : List Marks) (may : MayHear t h place a vector) (g : ℕ)
     → which (mark_at vector g) ≤ mark which (Gate may.sender) g h
 heard_mark which t h place a vector may g =
-    let there = letter_there t h place _ may.sent.there in
+    let there = letter_at t h place.entry place.letter _ may.sent.there in
     let sent = gossip_sent t there.0 place.letter may.sender vector there.2 in
     let most : mark_by which (Gate may.sender) g there.0 ≤ mark which (Gate may.sender) g h = greatest_at (mark_by which (Gate may.sender) g) h place.entry there.0 there.1 in
     let same : mark_by which (Gate may.sender) g there.0 ≡ which (mark_at vector g) = rw sent.1 (grind (arith, common_steps)) in

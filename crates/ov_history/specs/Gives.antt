@@ -3,7 +3,7 @@ use Rattle.std.proofs.Common.{zero, suc}
 use Rattle.std.specs.Prelude.{ℕ, ◌+◌, ◌^◌, min, max, Bool, false, not, ◌&&◌, ◌==◌, nat_le, nat_lt, Option, Some, None, List, [], ◌∷◌, ◌++◌, slice_get, if◌then◌else◌}
 use Rattle.std.specs.List.{list_all}
 use Rattle.std.specs.Option.{option_map}
-use Rattle.ov_base.specs.Version.{number}
+use Rattle.ov_base.specs.Version.{number, time_of}
 use Rattle.ov_base.specs.Word.{◌>>=◌}
 use Rattle.ov_functor.specs.Execution.{reply_of}
 use Rattle.ov_functor.specs.declared.command.Command.{Command}
@@ -184,3 +184,26 @@ acts t h actor other = own_acts t h actor other
 abbrev pub gives : Setting → History → Actor → Act → Option Entry
 gives t h actor act =
     if is_in t.topology actor && not (stopped actor h) then option_map (λ kind. record { actor = actor; kind = kind }) (acts t h actor act) else None
+
+-- ---- the act that an entry answers
+
+-- a reading of the clock at which a command starts so
+abbrev pub clock_of : Start → ℕ
+clock_of (Draw version transaction) = time_of version
+clock_of (Look least keys) = 0
+
+-- the act for which entries of this kind are given; one that has a place is given for taking the letter there
+abbrev pub act_of : Kind → Act
+act_of (kinds.Began s c start) = Begin s (clock_of start)
+act_of (kinds.Stored place version items) = Take place
+act_of (kinds.Acked place version c p) = Take place
+act_of (kinds.Published time vector) = Publish time
+act_of (kinds.Heard place vector) = Take place
+act_of (kinds.Asked round mode from below) = Ask mode
+act_of (kinds.Answered place settler round items) = Take place
+act_of (kinds.Taken place round c p items) = Take place
+act_of (kinds.Settled values) = Settle
+act_of (kinds.Resulted place s c gate reply) = Take place
+act_of (kinds.Replied place s c reply) = Take place
+act_of (kinds.Told place s c) = Take place
+act_of kinds.Stopped = Stop

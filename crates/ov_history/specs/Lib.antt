@@ -9,6 +9,7 @@ pub mod Nodes
 pub mod Settlers
 pub mod May
 pub mod Gives
+pub mod Cores
 pub mod Final
 pub mod Serial
 pub mod Example

@@ -16,7 +16,7 @@ ghost use Rattle.ov_history.specs.Past.{History, at, before, some, tally, same_a
 ghost use Rattle.ov_history.specs.Draws.{Drawn, Drew, drawn_in, draw_of, last, moves_clock};
 ghost use Rattle.ov_history.specs.Marks.{mark, visible, replicated, watermark, top_time, replied_to};
 ghost use Rattle.ov_history.specs.May.{Setting, May, Lawful};
-ghost use Rattle.ov_history.specs.Gives.{Act, gives};
+ghost use Rattle.ov_history.specs.Gives.{Act, gives, act_of};
 ghost use Rattle.ov_history.specs.Final.{IsClosed, Final, FinalAll};
 ghost use Rattle.ov_history.specs.Serial.{begun_at, begins, serial_at, InWindow};
 ghost use Rattle.ov_history.specs.Settlers.{Round, open_round, IsEnough, harvest};
@@ -102,9 +102,9 @@ pub fn given_may_follow()
     ensures { (t : Setting) (h : History) (actor : Actor) (act : Act) (e : entries.Entry) → IsShape t.topology → gives t h actor act ≡ Some e → (May t h e) × (e.actor ≡ actor) }
 {}
 
-/// What may follow is given by its actor for some act.
+/// What may follow is given by its actor, for the act that such an entry answers.
 pub fn may_is_given()
-    ensures { (t : Setting) (h : History) (e : entries.Entry) → IsShape t.topology → May t h e → (act : Act) × (gives t h e.actor act ≡ Some e) }
+    ensures { (t : Setting) (h : History) (e : entries.Entry) → IsShape t.topology → May t h e → gives t h e.actor (act_of e.kind) ≡ Some e }
 {}
 
 /// The short history of specs/Example.antt, with entries of all kinds, is lawful: no guard is too strong for it.

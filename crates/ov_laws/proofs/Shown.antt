@@ -21,8 +21,7 @@ use Rattle.ov_history.specs.Serial.{begun_at, serial_at}
 use Rattle.ov_history.specs.Settlers.{settled, known_below, shown, Shows}
 use Rattle.ov_history.proofs.Harvests.{begun_earlier}
 use Rattle.ov_history.proofs.Later.{serial_same, drawn_by_gate, draw_above}
-use Rattle.ov_history.proofs.Past.{lawful_at, lawful_before, at_before, at_most, at_earlier, before_length, before_before, last_before}
-use Rattle.ov_history.proofs.Sent.{letter_there}
+use Rattle.ov_history.proofs.Past.{lawful_at, lawful_before, at_before, at_most, at_earlier, before_length, before_before, last_before, letter_at}
 use Rattle.ov_laws.specs.Replies.{IsPublished, Expected}
 use Rattle.ov_laws.proofs.Sent.{result_sent, want_sent}
 use Rattle.ov_laws.proofs.Settled.{settler_stands, known_is_serial, settled_closed}
@@ -66,7 +65,7 @@ computed t shape h k settler g s c place reply lawful there =
     let may : MayResult t.topology old place settler s c g reply = (lawful_at t h k _ lawful there).guard in
     let w = settled settler old in
     let closed : IsClosed t.topology old w = settled_closed t shape old settler lawful_old in
-    let wanted = letter_there t.topology old place _ may.sent.there in
+    let wanted = letter_at t.topology old place.entry place.letter _ may.sent.there in
     let begun : wanted.0 ≡ record { actor = Gate g; kind = Began s c may.start } = want_sent t.topology wanted.0 place.letter s c g may.start wanted.2 in
     let maps : (n : ℕ) → n ≤ w → known_below settler old n ≡ serial_at h n =
     λ n le. (λ i key. known_is_serial t shape old settler n key lawful_old le i) ∙ sym (serial_before t h k w n lawful closed le) in
@@ -95,7 +94,7 @@ pub replied_is_answered : (t : Setting) → IsShape t.topology → (h : History)
     → at h k ≡ Some (record { actor = Gate g; kind = Replied place s c reply }) → IsAnswered t h k g s c reply
 replied_is_answered t shape h k g s c place reply lawful there =
     let may : MayReply t (before k h) place g s c reply = (lawful_at t h k _ lawful there).guard in
-    let sent = letter_there t.topology (before k h) place _ may.sent.there in
+    let sent = letter_at t.topology (before k h) place.entry place.letter _ may.sent.there in
     let by_settler = result_sent t.topology sent.0 place.letter s c g reply sent.2 in
     let resulted : Entry = record { actor = Settler by_settler.0; kind = Resulted by_settler.1 s c g reply } in
     let stood : at (before k h) place.entry ≡ Some resulted = sent.1 ∙ ap (λ (e : Entry). Some e) by_settler.2 in

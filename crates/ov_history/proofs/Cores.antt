@@ -1,0 +1,33 @@
+-- The calls of cores: what is given may follow and is all that may, and another actor's entry stops no core.
+use Rattle.std.proofs.Common.{◌≡◌, Bool, false, Option, Some, None, ◌∷◌, refl, sym, ◌∙◌}
+use Rattle.ov_base.proofs.Readers.{chosen}
+use Rattle.ov_topology.specs.Shape.{IsShape}
+use Rattle.ov_topology.specs.declared.actor.Actor.{Actor}
+use Rattle.ov_event.specs.declared.entry.Entry.{Entry}
+use Rattle.ov_event.specs.declared.kind.Kind.{Kind}
+use Rattle.ov_history.specs.Past.{History, same_actor}
+use Rattle.ov_history.specs.May.{Setting}
+use Rattle.ov_history.specs.Gives.{Act, gives}
+use Rattle.ov_history.specs.Cores.{kept, onto, Runs, Steps}
+use Rattle.ov_history.proofs.Given.{given_follows}
+use Rattle.ov_history.proofs.Giving.{may_given}
+use Rattle.ov_history.proofs.Stays.{stopped-stays}
+
+-- an entry that is kept was given
+kept_given : (f : Kind → Bool) (given : Option Entry) (e : Entry) → kept f given ≡ Some e → given ≡ Some e
+kept_given f None e is = absurd cc
+kept_given f (Some other) e is = (chosen (f other.kind) (Some other) e is).1
+
+-- A call that answers with what is given, and after which the core stands for the longer history, says all that a call has to.
+pub steps : {S : Type 0} (Stands : Setting → History → Actor → S → Type 0) (f : Kind → Bool) (t : Setting) (h : History) (actor : Actor) (act : Act) (answer : Option Entry) (new : S)
+    → IsShape t.topology → answer ≡ kept f (gives t h actor act) → Stands t (onto answer h) actor new → Steps Stands f t h actor act answer new
+steps Stands f t h actor act answer new shape given stands = record {
+  given = given;
+  stands = stands;
+  may = λ e is. given_follows t h actor act e shape (kept_given f (gives t h actor act) e (sym given ∙ is));
+  all = λ kind passes of may. given ∙ rw (sym of, may_given t h (record { actor = actor; kind = kind }) may, passes) refl;
+}
+
+-- an entry of another actor leaves it running as it was
+pub runs_on : (t : Setting) (h : History) (actor : Actor) (has_stopped : Bool) (e : Entry) → same_actor actor e.actor ≡ false → Runs t h actor has_stopped → Runs t (e ∷ h) actor has_stopped
+runs_on t h actor has_stopped e other runs = record { shape = runs.shape; known = runs.known; stopped_is = runs.stopped_is ∙ sym (stopped-stays h e.actor e.kind actor other) }

@@ -1,0 +1,39 @@
+-- What the calls of a core say. A core is the running state of one actor, and holds no history: it stands for each history after
+-- which its actor is as the core has it, and what a call says holds of every one of these.
+use Rattle.std.specs.Prelude.{◌≡◌, Bool, true, Option, Some, None, ◌∷◌, if◌then◌else◌}
+use Rattle.ov_topology.specs.Shape.{IsShape}
+use Rattle.ov_topology.specs.declared.actor.Actor.{Actor}
+use Rattle.ov_event.specs.Letters.{is_in}
+use Rattle.ov_event.specs.declared.entry.Entry.{Entry}
+use Rattle.ov_event.specs.declared.kind.Kind.{Kind}
+use Rattle.ov_history.specs.Past.{History, stopped}
+use Rattle.ov_history.specs.May.{Setting, May}
+use Rattle.ov_history.specs.Gives.{Act, gives, act_of}
+
+-- the entry that was given, where it is of a kind that passes
+abbrev pub kept : (Kind → Bool) → Option Entry → Option Entry
+kept f None = None
+kept f (Some e) = if f e.kind then Some e else None
+
+-- the history with the entry that was given, where one was
+abbrev pub onto : Option Entry → History → History
+onto None h = h
+onto (Some e) h = e ∷ h
+
+-- What each core stands for in part: its actor is in the topology, and has stopped where the core has it so.
+pub record Runs (t : Setting) (h : History) (actor : Actor) (has_stopped : Bool) : Type 0 where
+  pub shape : IsShape t.topology
+  pub known : is_in t.topology actor ≡ true
+  pub stopped_is : has_stopped ≡ stopped actor h
+
+-- What a call of a core for an act says of one history that the core stood for. `Stands` is what it is to stand for a history after
+-- which the actor is as the core has it, `f` tests the kinds of entries that the call makes, and `new` is the core after the call.
+pub record Steps {S : Type 0} (Stands : Setting → History → Actor → S → Type 0) (f : Kind → Bool) (t : Setting) (h : History) (actor : Actor) (act : Act) (answer : Option Entry) (new : S) : Type 0 where
+  -- the answer is what the actor gives for the act, where that is of such a kind
+  pub given : answer ≡ kept f (gives t h actor act)
+  -- the core then stands for the history with that entry
+  pub stands : Stands t (onto answer h) actor new
+  -- the entry may follow, and it is the actor's
+  pub may : (e : Entry) → answer ≡ Some e → (May t h e) × (e.actor ≡ actor)
+  -- what may follow for that act is the answer: where there is none, nothing may
+  pub all : (kind : Kind) → f kind ≡ true → act_of kind ≡ act → May t h (record { actor = actor; kind = kind }) → answer ≡ Some (record { actor = actor; kind = kind })
