@@ -1,14 +1,16 @@
 -- What the calls of a core say. A core is the running state of one actor, and holds no history: it stands for each history after
 -- which its actor is as the core has it, and what a call says holds of every one of these.
 use Rattle.std.specs.Prelude.{◌≡◌, Bool, true, Option, Some, None, ◌∷◌, if◌then◌else◌}
-use Rattle.ov_topology.specs.Shape.{IsShape}
+use Rattle.ov_topology.specs.Shape.{Shape, IsShape}
 use Rattle.ov_topology.specs.declared.actor.Actor.{Actor}
 use Rattle.ov_event.specs.Letters.{is_in}
 use Rattle.ov_event.specs.declared.entry.Entry.{Entry}
 use Rattle.ov_event.specs.declared.kind.Kind.{Kind}
+use Rattle.ov_event.specs.declared.letter.Letter.{Letter}
 use Rattle.ov_history.specs.Past.{History, stopped}
+use Rattle.ov_history.specs.Letters.{letter}
 use Rattle.ov_history.specs.May.{Setting, May}
-use Rattle.ov_history.specs.Gives.{Act, gives, act_of}
+use Rattle.ov_history.specs.Gives.{Act, Take, gives, act_of}
 
 -- the entry that was given, where it is of a kind that passes
 abbrev pub kept : (Kind → Bool) → Option Entry → Option Entry
@@ -19,6 +21,11 @@ kept f (Some e) = if f e.kind then Some e else None
 abbrev pub onto : Option Entry → History → History
 onto None h = h
 onto (Some e) h = e ∷ h
+
+-- the history's letter that an act takes, where it takes one and the history has it
+abbrev pub letter_for : Shape → History → Act → Option Letter
+letter_for t h (Take place) = letter t h place
+letter_for t h other = None
 
 -- What each core stands for in part: its actor is in the topology, and has stopped where the core has it so.
 pub record Runs (t : Setting) (h : History) (actor : Actor) (has_stopped : Bool) : Type 0 where
