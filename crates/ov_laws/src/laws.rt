@@ -1,5 +1,6 @@
 //! The laws of values, each the contract of a function that does nothing.
-ghost use Rattle.std.specs.Prelude.{◌≡◌, ℕ, ◌+◌, ◌≤◌, ◌<◌, Some, List};
+ghost use Rattle.std.specs.Prelude.{◌≡◌, ℕ, ◌+◌, ◌≤◌, ◌<◌, Some, List, slice_get, ◌↔◌};
+ghost use Rattle.ov_functor.specs.declared.item.Item.{Item};
 ghost use Rattle.ov_functor.specs.declared.item.Valued.{Valued};
 ghost use Rattle.ov_functor.specs.declared.item.Shown.{Shown};
 ghost use Rattle.ov_functor.specs.declared.reply.Reply.{Reply};
@@ -14,9 +15,10 @@ ghost use Rattle.ov_event.specs.declared.start.Start.{Start};
 ghost use Rattle.ov_event.specs.declared.kind.Kind.TheVariants.{Began, Settled, Replied};
 ghost use Rattle.ov_history.specs.Past.{History, at};
 ghost use Rattle.ov_history.specs.Draws.{Drawn, drawn_in};
-ghost use Rattle.ov_history.specs.Settlers.{settled, known_below};
+ghost use Rattle.ov_history.specs.Settlers.{Round, open_round, settled, known_below, IsEnough, harvest};
 ghost use Rattle.ov_history.specs.May.{Setting, Lawful};
-ghost use Rattle.ov_history.specs.Serial.{serial_at};
+ghost use Rattle.ov_history.specs.Serial.{serial_at, InWindow};
+ghost use Rattle.ov_laws.specs.Harvests.{IsSorted};
 ghost use Rattle.ov_laws.specs.Replies.{Expected};
 
 /// What a settler knows just below each number up to which it has settled is the serial map, each value of a `Settled` entry is that
