@@ -1,4 +1,5 @@
 pub mod Lists
+pub mod Sorted
 pub mod WindowItems
 pub mod Settled
 pub mod Sent

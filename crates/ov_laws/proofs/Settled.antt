@@ -35,7 +35,9 @@ use Rattle.ov_history.proofs.Past.{at_newest, at_older}
 use Rattle.ov_laws.specs.Replies.{IsPublished}
 use Rattle.ov_functor.proofs.Among.{among_front, among_back, among_either}
 use Rattle.ov_history.proofs.Harvests.{harvest_is_window}
-use Rattle.ov_laws.proofs.Lists.{Climbs, backwards_comes, backwards_has, harvest_climbs, climbs_back}
+use Rattle.ov_laws.specs.Harvests.{IsSorted}
+use Rattle.ov_laws.proofs.Lists.{backwards_comes, backwards_has}
+use Rattle.ov_laws.proofs.Sorted.{harvest_sorted, sorted_back}
 use Rattle.ov_laws.proofs.WindowItems.{IsWindow, window_back, window_fits, window_covers}
 
 -- ---- values that stand
@@ -121,15 +123,15 @@ complete_together h new old from below early late version key low less writes = 
         record { found = has.found; within = among_front has.found (backwards new) old (backwards_has has.found new has.within); version_is = has.version_is; key_is = has.key_is }
 
 -- the values of a window, put before values that stand up to its lower end, stand up to its upper end
-stand_grows : (h : History) (old : List Valued) (items : List Item) (n from below : ℕ) → Stand h old n → from ≡ n → from < below → Climbs items → IsWindow h from below items
+stand_grows : (h : History) (old : List Valued) (items : List Item) (n from below : ℕ) → Stand h old n → from ≡ n → from < below → IsSorted items → IsWindow h from below items
     → Stand h (backwards (evaluated (just_below from old) (backwards items)) ++ old) below
-stand_grows h old items n from below stand same more climbs window =
+stand_grows h old items n from below stand same more sorted window =
     let plan = backwards items in
     let base = just_below from old in
     let new = evaluated base plan in
     let there : IsWindow h from below plan = window_back h from below items window in
     let covers = window_covers h from below plan there in
-    let falls = climbs_back (suc below) items climbs (λ item among. let high : item.version < below = ((window item).0 among).high in omega (arith, high)) in
+    let falls = sorted_back (suc below) items sorted (λ item among. let high : item.version < below = ((window item).0 among).high in omega (arith, high)) in
     let early : Complete (begun_at h) old 0 from = λ version key low less writes. stand.complete version key low (omega (arith, same, less)) writes in
     let base_is : (key : List ℕ) → base key ≡ serial (begun_at h) from key = just_below-is-serial (begun_at h) from old stand.sound early in
     let right = evaluated-right (begun_at h) base from below plan base_is falls (window_fits h from below plan there) covers in
@@ -209,7 +211,7 @@ settle_kept t shape h s values lawful is =
     let values_are : values_of s (e ∷ h) ≡ values ++ values_of s h = grind (arith, common_steps) in
     let none : open_round s (e ∷ h) ≡ None = grind (arith, common_steps) in
     let all = stand_grows h (values_of s h) (harvest s round.number h) (settled s h) round.from round.below is.stand was.from_is was.more
-    (harvest_climbs s round.number h) (harvest_is_window t h s round shape lawful.0 may.current_is may.enough) in
+    (harvest_sorted s round.number h) (harvest_is_window t h s round shape lawful.0 may.current_is may.enough) in
     let now : Stand h (values ++ values_of s h) round.below = subst (λ (list : List Valued). Stand h (list ++ values_of s h) round.below) (sym may.values_are) all in
     record {
       published = inr (rw settled_is (record { settler = s; round = round.number; mode = round.mode; from = round.from; number = was.number; asked = at_older h was.number _ e was.asked }));

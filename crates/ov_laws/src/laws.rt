@@ -1,5 +1,6 @@
 //! The laws of values, each the contract of a function that does nothing.
-ghost use Rattle.std.specs.Prelude.{◌≡◌, ℕ, ◌+◌, ◌≤◌, ◌<◌, Some, List};
+ghost use Rattle.std.specs.Prelude.{◌≡◌, ℕ, ◌+◌, ◌≤◌, ◌<◌, Some, List, slice_get, ◌↔◌};
+ghost use Rattle.ov_functor.specs.declared.item.Item.{Item};
 ghost use Rattle.ov_functor.specs.declared.item.Valued.{Valued};
 ghost use Rattle.ov_functor.specs.declared.item.Shown.{Shown};
 ghost use Rattle.ov_functor.specs.declared.reply.Reply.{Reply};
@@ -14,9 +15,10 @@ ghost use Rattle.ov_event.specs.declared.start.Start.{Start};
 ghost use Rattle.ov_event.specs.declared.kind.Kind.TheVariants.{Began, Settled, Replied};
 ghost use Rattle.ov_history.specs.Past.{History, at};
 ghost use Rattle.ov_history.specs.Draws.{Drawn, drawn_in};
-ghost use Rattle.ov_history.specs.Settlers.{settled, known_below};
+ghost use Rattle.ov_history.specs.Settlers.{Round, open_round, settled, known_below, IsEnough, harvest};
 ghost use Rattle.ov_history.specs.May.{Setting, Lawful};
-ghost use Rattle.ov_history.specs.Serial.{serial_at};
+ghost use Rattle.ov_history.specs.Serial.{serial_at, InWindow};
+ghost use Rattle.ov_laws.specs.Harvests.{IsSorted};
 ghost use Rattle.ov_laws.specs.Replies.{Expected};
 
 /// What a settler knows just below each number up to which it has settled is the serial map, each value of a `Settled` entry is that
@@ -50,4 +52,14 @@ pub fn session_order()
     ensures replied { (t : Setting) (h : History) (i j g f s c d : ℕ) (start : Start) (place : Place) (reply : Reply) → Lawful t h → i < j → at h i ≡ Some (record { actor = Gate g; kind = Began s c start }) → at h j ≡ Some (record { actor = Gate f; kind = Replied place s d reply }) → c ≤ d }
     ensures begun { (t : Setting) (h : History) (i j g f s c d : ℕ) (place : Place) (reply : Reply) (start : Start) → Lawful t h → i < j → at h i ≡ Some (record { actor = Gate g; kind = Replied place s c reply }) → at h j ≡ Some (record { actor = Gate f; kind = Began s d start }) → c < d }
     ensures snaps { (t : Setting) (h : History) (j k g f s c d n : ℕ) (place from : Place) (reply : Reply) (list : List Shown) → IsShape t.topology → Lawful t h → j < k → at h j ≡ Some (record { actor = Gate g; kind = Replied place s c reply }) → at h k ≡ Some (record { actor = Gate f; kind = Replied from s d (Snap n list) }) → floor_of reply ≤ n }
+{}
+
+/// The harvest of a round is sorted: by version and then key, none twice. Where the open round of a settler has answers enough to be
+/// settled, in either mode, the harvest is the window as a list: each item of the window is there and none besides, and it is the one
+/// sorted list of which that holds.
+pub fn harvest_list()
+    ensures sorted { (s n : ℕ) (h : History) → IsSorted (harvest s n h) }
+    ensures once { (s n i j : ℕ) (h : History) (x y : Item) → slice_get (harvest s n h) i ≡ Some x → slice_get (harvest s n h) j ≡ Some y → x.version ≡ y.version → x.key ≡ y.key → i ≡ j }
+    ensures window { (t : Setting) (h : History) (s : ℕ) (round : Round) → IsShape t.topology → Lawful t h → open_round s h ≡ Some round → ((p : ℕ) → p < t.topology.partitions → IsEnough t.topology s round p h round.mode) → (item : Item) → Among item (harvest s round.number h) ↔ InWindow h round.from round.below item }
+    ensures only { (t : Setting) (h : History) (s : ℕ) (round : Round) (items : List Item) → IsShape t.topology → Lawful t h → open_round s h ≡ Some round → ((p : ℕ) → p < t.topology.partitions → IsEnough t.topology s round p h round.mode) → IsSorted items → ((item : Item) → Among item items ↔ InWindow h round.from round.below item) → items ≡ harvest s round.number h }
 {}

@@ -8,4 +8,4 @@
 
 mod laws;
 
-pub use laws::{order, right_replies, session_order, settled_values};
+pub use laws::{harvest_list, order, right_replies, session_order, settled_values};
