@@ -1,0 +1,28 @@
+use Rattle.std.proofs.Common.{refl}
+use Rattle.ov_base.specs.Key.{key_eq}
+use Rattle.ov_functor.specs.Execution.{changed, covers}
+use Rattle.ov_follow.proofs.examples.both_gateways_heard.Goals as goal
+
+pub returns-clause-lines : goal.returns-clause-lines
+unfolding key_eq changed covers
+returns-clause-lines c = refl
+
+pub returns-clause-asks : goal.returns-clause-asks
+unfolding key_eq changed covers
+returns-clause-asks c = refl
+
+pub returns-clause-answers : goal.returns-clause-answers
+unfolding key_eq changed covers
+returns-clause-answers c = refl
+
+pub returns-clause-settles : goal.returns-clause-settles
+unfolding key_eq changed covers
+returns-clause-settles c = refl
+
+pub returns-clause-calm : goal.returns-clause-calm
+unfolding key_eq changed covers
+returns-clause-calm c = refl
+
+pub returns-clause-replies : goal.returns-clause-replies
+unfolding key_eq changed covers
+returns-clause-replies c = refl
