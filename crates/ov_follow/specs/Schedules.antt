@@ -4,13 +4,13 @@ use Rattle.ov_base.specs.Version.{number}
 use Rattle.ov_functor.specs.declared.item.Item.{Item}
 use Rattle.ov_functor.specs.declared.effect.Effect.TheVariants as effects
 use Rattle.ov_functor.specs.declared.part.Part.{Part}
-use Rattle.ov_functor.specs.declared.part.Part.TheVariants.{Put, Get, Move}
+use Rattle.ov_functor.specs.declared.part.Part.TheVariants.{Put, Del, Add, Least, Greatest, Move, Get}
 use Rattle.ov_topology.specs.declared.actor.Actor.TheVariants.{Gate, Node, Settler}
 use Rattle.ov_topology.specs.declared.mode.Mode.TheVariants.{Quorum, One}
 use Rattle.ov_script.specs.declared.step.Step.{Step}
 use Rattle.ov_script.specs.declared.step.Step.TheVariants.{Begin, Take, Publish, Ask, Settle, Stop}
 use Rattle.ov_history.specs.May.{Setting}
-use Rattle.ov_follow.specs.Worlds.{one_gateway, two_gateways, three_centres, four_partitions, two_centres, session, does, snaps, first_of, waits, world, letter}
+use Rattle.ov_follow.specs.Worlds.{one_gateway, two_gateways, three_centres, four_partitions, two_centres, session, does, snaps, first_of, waits, world, letter, minus}
 
 -- ---- a move that does not hold
 
@@ -23,6 +23,36 @@ abbrev pub short_move : Setting
 short_move =
     world one_gateway
     (session (codes "s") 0 (does (Put (codes "a") (pos 10) ∷ []) ∷ does (Move (codes "a") (codes "b") (pos 11) ∷ Put (codes "y") (pos 1) ∷ []) ∷ does get_a_b_y ∷ []) ∷ [])
+
+-- put x 5
+abbrev pub put_x5 : List Part
+put_x5 = Put (codes "x") (pos 5) ∷ []
+
+-- ---- values
+
+-- a: get x beside an add to it; then get x
+abbrev pub get_beside_add : Setting
+get_beside_add = world one_gateway (session (codes "a") 0 (does (Get (codes "x") ∷ Add (codes "x") (pos 3) ∷ []) ∷ does (Get (codes "x") ∷ []) ∷ []) ∷ [])
+
+-- s: put a 10; then move it all to b; then get both
+abbrev pub whole_move : Setting
+whole_move =
+    world one_gateway
+    (session (codes "s") 0 (does (Put (codes "a") (pos 10) ∷ []) ∷ does (Move (codes "a") (codes "b") (pos 10) ∷ []) ∷ does (Get (codes "a") ∷ Get (codes "b") ∷ []) ∷ []) ∷ [])
+
+-- s: put b the greatest amount; then a move to it; then an add to it; then get both
+abbrev pub full_key : Setting
+full_key =
+    world one_gateway
+    (session (codes "s") 0 (does (Put (codes "a") (pos 5) ∷ Put (codes "b") (pos 1000000000000000000) ∷ []) ∷ does (Move (codes "a") (codes "b") (pos 1) ∷ []) ∷
+    does (Add (codes "b") (pos 1) ∷ []) ∷ does (Get (codes "a") ∷ Get (codes "b") ∷ []) ∷ []) ∷ [])
+
+-- s: a least, a greatest and the least amount of absent keys; then less than that, and a deletion; then get all
+abbrev pub empty_keys : Setting
+empty_keys =
+    world one_gateway
+    (session (codes "s") 0 (does (Least (codes "c") (pos 4) ∷ Greatest (codes "d") (minus 2) ∷ Add (codes "e") (minus 1000000000000000000) ∷ []) ∷
+    does (Add (codes "e") (minus 1) ∷ Del (codes "c") ∷ []) ∷ does (Get (codes "c") ∷ Get (codes "d") ∷ Get (codes "e") ∷ []) ∷ []) ∷ [])
 
 -- ---- two gateways
 
@@ -148,11 +178,36 @@ put_and_snap = world two_centres (session (codes "a") 0 (does (Put (codes "x") (
 abbrev pub unheard : List Step
 unheard = Begin (codes "b") 0 ∷ Take (Settler 1) (letter 1 1) ∷ Take (Gate 1) (letter 2 1) ∷ []
 
--- ---- a mark before the first draw
+-- a: put x 5; b: snap x; both of g0
+abbrev pub put_beside_snap : Setting
+put_beside_snap = world one_gateway (session (codes "a") 0 (does put_x5 ∷ []) ∷ session (codes "b") 0 (snaps (codes "x" ∷ []) ∷ []) ∷ [])
 
--- put x 5
-abbrev pub put_x5 : List Part
-put_x5 = Put (codes "x") (pos 5) ∷ []
+-- b is answered when its settler has heard of the put, and has not settled it
+abbrev pub heard_not_settled : List Step
+heard_not_settled =
+    Begin (codes "a") 0 ∷ Take (Node 0 0) (letter 1 1) ∷ Take (Gate 0) (letter 2 1) ∷ Publish 0 0 ∷ Take (Settler 0) (letter 4 1) ∷ Begin (codes "b") 0 ∷
+    Take (Settler 0) (letter 6 1) ∷ Take (Gate 0) (letter 7 1) ∷ []
+
+-- ---- replies that are repeated
+
+-- the put of the first example is replied once, although its result is computed, and taken, twice
+abbrev pub replied_again : List Step
+replied_again =
+    Begin (codes "a") 0 ∷ Take (Node 0 0) (letter 1 1) ∷ Take (Gate 0) (letter 2 1) ∷ Publish 0 0 ∷ Take (Settler 0) (letter 4 1) ∷ Ask 0 Quorum ∷
+    Take (Node 0 0) (letter 6 1) ∷ Take (Settler 0) (letter 7 1) ∷ Settle 0 ∷ Take (Settler 0) (letter 1 2) ∷ Take (Settler 0) (letter 1 2) ∷
+    Take (Gate 0) (letter 10 1) ∷ Take (Gate 0) (letter 10 1) ∷ Take (Gate 0) (letter 11 1) ∷ []
+
+-- ---- the greatest clock
+
+-- a: put x 1; put x 2
+abbrev pub two_puts : Setting
+two_puts = world one_gateway (session (codes "a") 0 (does (Put (codes "x") (pos 1) ∷ []) ∷ does (Put (codes "x") (pos 2) ∷ []) ∷ []) ∷ [])
+
+-- a begins at the greatest reading of a clock
+abbrev pub greatest_clock : List Step
+greatest_clock = Begin (codes "a") 18446744073709551615 ∷ []
+
+-- ---- a mark before the first draw
 
 -- a: put x 5
 abbrev pub one_put : Setting

@@ -1,5 +1,6 @@
 -- The topologies, sessions and words of the examples.
-use Rattle.std.specs.Prelude.{◌==◌, ℕ, ◌+◌, List, [], ◌∷◌, ◌++◌, length, if◌then◌else◌}
+use Rattle.std.specs.Prelude.{◌==◌, ℕ, ◌+◌, List, [], ◌∷◌, ◌++◌, length, if◌then◌else◌, Bool, false, ℤ, pos}
+use lib.IntN.{neg_ℤ}
 use Rattle.ov_base.specs.declared.value.Value.{Value}
 use Rattle.ov_functor.specs.declared.command.Command.TheVariants as commands
 use Rattle.ov_functor.specs.declared.part.Part.{Part}
@@ -14,6 +15,7 @@ use Rattle.ov_session.specs.declared.planned.Planned.{Planned}
 use Rattle.ov_script.specs.declared.step.Step.{Step}
 use Rattle.ov_event.specs.declared.kind.Kind.{Kind}
 use Rattle.ov_event.specs.declared.kind.Kind.TheVariants as kinds
+use Rattle.ov_event.specs.declared.start.Start.TheVariants.{Look}
 use Rattle.ov_history.specs.Past.{History}
 use Rattle.ov_history.specs.May.{Setting}
 use Rattle.ov_follow.specs.Lines.{follow}
@@ -68,6 +70,10 @@ world topology sessions = record { topology = topology; roster = record { sessio
 
 -- ---- what is looked at
 
+-- a negative amount
+abbrev pub minus : ℕ → ℤ
+minus n = neg_ℤ (pos n)
+
 -- the letter of an entry
 abbrev pub letter : ℕ → ℕ → Place
 letter entry number = record { entry = entry; letter = number }
@@ -103,3 +109,8 @@ told (e ∷ h) = told h ++ told_in e.kind
 -- the reply to a command
 abbrev pub to : ℕ → ℕ → Reply → Told
 to session seq reply = record { session = session; seq = seq; reply = reply }
+
+-- whether an entry begins a snapshot with this floor
+abbrev pub begins_at : ℕ → Kind → Bool
+begins_at floor (kinds.Began session seq (Look least keys)) = least == floor
+begins_at floor other = false

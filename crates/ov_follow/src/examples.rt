@@ -1,5 +1,6 @@
 //! The definitions at work on examples, each fact the contract of a function that does nothing.
-ghost use Rattle.std.specs.Prelude.{◌≡◌, [], ◌∷◌, ◌++◌, Some, length, codes, pos};
+ghost use Rattle.std.specs.Prelude.{◌≡◌, [], ◌∷◌, ◌++◌, Some, length, ◌+◌, true, codes, pos};
+ghost use Rattle.std.specs.List.{list_any};
 ghost use Rattle.ov_base.specs.Version.{number};
 ghost use Rattle.ov_base.specs.declared.value.Value.TheVariants.{Number, Absent};
 ghost use Rattle.ov_functor.specs.Execution.{empty};
@@ -19,8 +20,8 @@ ghost use Rattle.ov_follow.specs.Calm.{calm};
 ghost use Rattle.ov_follow.specs.Expected.{IsExpected};
 ghost use Rattle.ov_follow.specs.Whole.{IsWhole};
 ghost use Rattle.ov_follow.specs.First.{setting, journal};
-ghost use Rattle.ov_follow.specs.Worlds.{letter, triple, with, numbers, told, to, three_centres, two_gateways};
-ghost use Rattle.ov_follow.specs.Schedules.{short_move, put_by_one, heard_one, heard_both, put_in_three, repeated, gathered, settled_by_quorum, settled_by_one, replaced, item_x, no_command, late, waiting, too_early, put_beside_none, transfers, two_snaps, put_and_snap, unheard, one_put, early_mark, gateway_stops, node_stops, put_x7, put_x5, put_a3, move_a_b2};
+ghost use Rattle.ov_follow.specs.Worlds.{letter, triple, with, minus, numbers, begins_at, told, to, three_centres, two_gateways};
+ghost use Rattle.ov_follow.specs.Schedules.{short_move, put_by_one, heard_one, heard_both, put_in_three, repeated, gathered, settled_by_quorum, settled_by_one, replaced, item_x, no_command, late, waiting, too_early, put_beside_none, transfers, two_snaps, put_and_snap, unheard, one_put, early_mark, gateway_stops, node_stops, put_x7, put_x5, put_a3, move_a_b2, get_beside_add, whole_move, full_key, empty_keys, two_puts, greatest_clock, put_beside_snap, heard_not_settled, replied_again};
 
 /// A put and a get: calm rounds over an empty history give the whole journal, entry by entry.
 pub fn put_and_get()
@@ -143,4 +144,42 @@ pub fn mark_before_the_first_draw()
 /// values just below its version.
 pub fn plan_of_a_put_and_a_move()
     ensures { backwards (evaluated empty (backwards (items_of (number 1 0) put_a3 ++ items_of (number 2 0) move_a_b2))) ≡ record { version = number 1 0; key = codes "a"; value = Number (pos 3) } ∷ record { version = number 2 0; key = codes "a"; value = Number (pos 1) } ∷ record { version = number 2 0; key = codes "b"; value = Number (pos 2) } ∷ [] }
+{}
+
+/// A get beside an add to the same key shows the value before the transaction.
+pub fn get_beside_an_add()
+    ensures { told (calm get_beside_add []) ≡ to 0 1 (Done (number 1 0) (with (codes "x") Absent ∷ [])) ∷ to 0 2 (Done (number 2 0) (with (codes "x") (Number (pos 3)) ∷ [])) ∷ [] }
+{}
+
+/// A move that holds takes from one key what it gives to the other.
+pub fn move_that_holds()
+    ensures { told (calm whole_move []) ≡ to 0 1 (Done (number 1 0) []) ∷ to 0 2 (Done (number 2 0) []) ∷ to 0 3 (Done (number 3 0) (with (codes "a") (Number (pos 0)) ∷ with (codes "b") (Number (pos 10)) ∷ [])) ∷ [] }
+{}
+
+/// The bounds of amounts: a move never stops at the greatest one, an add does; and an add stops at the least one.
+pub fn bounds_of_amounts()
+    ensures greatest { told (calm full_key []) ≡ to 0 1 (Done (number 1 0) []) ∷ to 0 2 (Aborted (number 2 0) []) ∷ to 0 3 (Done (number 3 0) []) ∷ to 0 4 (Done (number 4 0) (with (codes "a") (Number (pos 5)) ∷ with (codes "b") (Number (pos 1000000000000000000)) ∷ [])) ∷ [] }
+    ensures least { told (calm empty_keys []) ≡ to 0 1 (Done (number 1 0) []) ∷ to 0 2 (Done (number 2 0) []) ∷ to 0 3 (Done (number 3 0) (with (codes "c") Absent ∷ with (codes "d") (Number (minus 2)) ∷ with (codes "e") (Number (minus 1000000000000000000)) ∷ [])) ∷ [] }
+{}
+
+/// The greatest reading of a clock counts as `2 ^ 46`, and the next version is one later.
+pub fn greatest_reading_of_a_clock()
+    ensures { told (calm two_puts (drive two_puts [] greatest_clock)) ≡ to 0 1 (Done (number 70368744177664 0) []) ∷ to 0 2 (Done (number 70368744177665 0) []) ∷ [] }
+{}
+
+/// A snapshot shows what its settler has settled, and not what it has only heard of.
+pub fn snapshot_before_settling()
+    ensures lines { numbers put_beside_snap [] heard_not_settled ≡ 1 ∷ 2 ∷ 3 ∷ 4 ∷ 5 ∷ 6 ∷ 7 ∷ 8 ∷ [] }
+    ensures shown { told (drive put_beside_snap [] heard_not_settled) ≡ to 1 1 (Snap 0 (with (codes "x") Absent ∷ [])) ∷ [] }
+{}
+
+/// A command is replied once, however often its result is computed and taken.
+pub fn replied_once()
+    ensures lines { numbers one_put [] replied_again ≡ 1 ∷ 2 ∷ 3 ∷ 4 ∷ 5 ∷ 6 ∷ 7 ∷ 8 ∷ 9 ∷ 10 ∷ 11 ∷ 12 ∷ 0 ∷ 0 ∷ [] }
+    ensures replies { told (drive one_put [] replied_again) ≡ to 0 1 (Done (number 1 0) []) ∷ [] }
+{}
+
+/// The floor of a snapshot after a reply at version 1.0 is the number above it.
+pub fn floor_above_a_reply()
+    ensures { list_any (λ (e : entries.Entry). begins_at (number 1 0 + 1) e.kind) (calm two_snaps []) ≡ true }
 {}
