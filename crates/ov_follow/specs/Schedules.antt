@@ -101,6 +101,10 @@ gathered = written_twice ++ Ask 2 Quorum ∷ Take (Node 1 0) (letter 8 1) ∷ Ta
 abbrev pub settled_by_quorum : List Step
 settled_by_quorum = gathered ++ Settle 2 ∷ []
 
+-- it has one of the two answers that it needs, and tries to settle
+abbrev pub too_few : List Step
+too_few = written_twice ++ Ask 2 Quorum ∷ Take (Node 1 0) (letter 8 1) ∷ Take (Settler 2) (letter 9 1) ∷ Settle 2 ∷ []
+
 -- it asks the nodes of its own centre, before and after the third node has stored the write
 abbrev pub settled_by_one : List Step
 settled_by_one =

@@ -21,7 +21,7 @@ ghost use Rattle.ov_follow.specs.Expected.{IsExpected};
 ghost use Rattle.ov_follow.specs.Whole.{IsWhole};
 ghost use Rattle.ov_follow.specs.First.{setting, journal};
 ghost use Rattle.ov_follow.specs.Worlds.{letter, triple, with, minus, numbers, begins_at, told, to, three_centres, two_gateways};
-ghost use Rattle.ov_follow.specs.Schedules.{short_move, put_by_one, heard_one, heard_both, put_in_three, repeated, gathered, settled_by_quorum, settled_by_one, replaced, item_x, no_command, late, waiting, too_early, put_beside_none, transfers, two_snaps, put_and_snap, unheard, one_put, early_mark, gateway_stops, node_stops, put_x7, put_x5, put_a3, move_a_b2, get_beside_add, whole_move, full_key, empty_keys, two_puts, greatest_clock, put_beside_snap, heard_not_settled, replied_again};
+ghost use Rattle.ov_follow.specs.Schedules.{short_move, put_by_one, heard_one, heard_both, put_in_three, repeated, gathered, settled_by_quorum, settled_by_one, too_few, replaced, item_x, no_command, late, waiting, too_early, put_beside_none, transfers, two_snaps, put_and_snap, unheard, one_put, early_mark, gateway_stops, node_stops, put_x7, put_x5, put_a3, move_a_b2, get_beside_add, whole_move, full_key, empty_keys, two_puts, greatest_clock, put_beside_snap, heard_not_settled, replied_again};
 
 /// A put and a get: calm rounds over an empty history give the whole journal, entry by entry.
 pub fn put_and_get()
@@ -89,6 +89,11 @@ pub fn two_rounds_of_one_centre()
     ensures marks { at (drive put_in_three [] settled_by_one) 14 ≡ Some (record { actor = Gate 0; kind = Published 11 (triple (number 11 0) (number 11 0) (number 10 0) ∷ []) }) }
     ensures second { at (drive put_in_three [] settled_by_one) 16 ≡ Some (record { actor = Settler 2; kind = Asked 2 One (number 10 0) (number 11 0) }) }
     ensures settles { at (drive put_in_three [] settled_by_one) 19 ≡ Some (record { actor = Settler 2; kind = Settled (record { version = number 10 0; key = codes "x"; value = Number (pos 1) } ∷ []) }) }
+{}
+
+/// A quorum round is not settled with one answer too few.
+pub fn one_answer_too_few()
+    ensures { numbers put_in_three [] too_few ≡ 1 ∷ 2 ∷ 3 ∷ 4 ∷ 5 ∷ 6 ∷ 7 ∷ 8 ∷ 9 ∷ 10 ∷ 0 ∷ [] }
 {}
 
 /// An answer to a round that was replaced is not taken.
