@@ -4,7 +4,6 @@ ghost use Rattle.std.specs.Option.{option_map};
 ghost use Rattle.ov_topology.specs.Shape.{Shape};
 ghost use Rattle.ov_topology.specs.declared.actor.Actor.TheVariants.{Gate, Settler};
 ghost use Rattle.ov_event.specs.Letters.{is_in};
-ghost use Rattle.ov_event.specs.declared.entry.Entry.{Entry};
 ghost use Rattle.ov_history.specs.Past.{stopped};
 ghost use Rattle.ov_history.specs.Gives.{gives, Begin, Take, Publish, Ask, Settle, Stop, takes, takes_as};
 

@@ -1,4 +1,4 @@
-use Rattle.std.proofs.Common.{◌≡◌, ℕ, arith, subst}
+use Rattle.std.proofs.Common.{◌≡◌, arith, subst}
 use Rattle.ov_history.specs.Counts.{all_below}
 use Rattle.ov_history.specs.Gives.{is_enough}
 use Rattle.ov_judge.specs.Rounds.{as_round}
