@@ -1,57 +1,53 @@
--- When a command may begin, from its session's plan.
-use Rattle.std.proofs.Common.{◌≡◌, ℕ, ◌≤◌, Bool, true, IsTrue, ◌↔◌, List, [], ◌∷◌, Some, Option, refl, sym, ◌∙◌}
-use Rattle.std.specs.Prelude.{slice_get}
-use Rattle.std.specs.List.{AllByRecursion, list_all}
-use Rattle.std.proofs.lemmas.Bool.{le-leb, leb-true, and_parts}
-use Rattle.ov_session.specs.Events.{known}
-use Rattle.ov_session.specs.declared.after.After.{After}
+-- When a command may begin, from which one is ready.
+use Rattle.std.proofs.Common.{◌≡◌, ℕ, ◌+◌, Bool, IsTrue, ◌↔◌, Option, Some, None, refl, sym, subst}
+use Rattle.std.specs.Prelude.{slice_get, ◌==◌, ◌&&◌, if◌then◌else◌}
+use Rattle.std.specs.List.{list_all}
+use Rattle.ov_base.specs.Word.{◌>>=◌}
+use Rattle.ov_session.specs.Events.{begun, replied}
+use Rattle.ov_session.specs.Standing.{next_of, standing_after}
 use Rattle.ov_session.specs.declared.plan.SessionPlan.{SessionPlan}
+use Rattle.ov_session.specs.declared.planned.Planned.{Planned}
 use Rattle.ov_event.specs.declared.start.Start.{Start}
-use Rattle.ov_history.specs.May.{Setting, MayStart}
+use Rattle.ov_history.proofs.Given.{ready_may}
+use Rattle.ov_history.proofs.Giving.{may_ready}
+use Rattle.ov_history.specs.Gives.{is_known, ready}
+use Rattle.ov_history.specs.May.{Setting, StartsAs, MayStart}
 use Rattle.ov_history.specs.Past.{History}
 use Rattle.ov_history.specs.Sessions.{events_of}
-use Rattle.ov_judge.specs.Starts.{is_known, StartsIn}
 
-known_all : (g : ℕ) (h : History) (waited : List After) → list_all (is_known g h) waited ≡ true → AllByRecursion (λ after. after.seq ≤ known after.session (events_of g h)) waited
-known_all g h [] e = tt
-known_all g h (after ∷ waited) e =
-    let parts = and_parts (is_known g h after) (list_all (is_known g h) waited) e in
-    (leb-true after.seq (known after.session (events_of g h)) parts.0, known_all g h waited parts.1)
+-- the command that is ready is the one that comes next, where all that it waits for is known
+pub ready_next : (t : Setting) (h : History) (g s : ℕ)
+    → ready t h g s ≡ (next_of t.roster g s (standing_after s (events_of g h)) >>= λ planned. if list_all (is_known g h) planned.after then Some planned else None)
+ready_next t h g s = by (slice_get t.roster.sessions s)
+  where
+    by : (found : Option SessionPlan)
+        → (found >>= λ plan. (if (plan.gate == g) && (begun s (events_of g h) == replied s (events_of g h)) then slice_get plan.planned (begun s (events_of g h)) else None) >>= λ planned. if list_all (is_known g h) planned.after then Some planned else None)
+        ≡ ((found >>= λ plan. if (plan.gate == g) && (begun s (events_of g h) == replied s (events_of g h)) then slice_get plan.planned (begun s (events_of g h)) else None) >>= λ planned. if list_all (is_known g h) planned.after then Some planned else None)
+    by None = refl
+    by (Some plan) = refl
 
-all_known : (g : ℕ) (h : History) (waited : List After) → AllByRecursion (λ after. after.seq ≤ known after.session (events_of g h)) waited → list_all (is_known g h) waited ≡ true
-all_known g h [] all = refl
-all_known g h (after ∷ waited) all = rw (le-leb after.seq (known after.session (events_of g h)) all.0) (all_known g h waited all.1)
+-- where none is ready, none may begin
+pub none_starts : (t : Setting) (h : History) (g s c : ℕ) (start : Start) → ready t h g s ≡ None → MayStart t h g s c start → ⊥
+none_starts t h g s c start none may =
+    let some : ready t h g s ≡ Some may.ready.planned = may_ready t h g s c may.ready in cc
 
-starts_forth : (t : Setting) (plan : SessionPlan) (h : History) (g s seq : ℕ) (start : Start) → slice_get t.roster.sessions s ≡ Some plan → StartsIn plan h g s seq start → MayStart t h g s seq start
-starts_forth t plan h g s seq start here i = record {
-  ready = record {
-    plan = plan;
-    session = here;
-    own = i.own;
-    idle = i.idle;
-    next = i.next;
-    planned = i.planned;
-    further = i.further;
-    waited = known_all g h i.planned.after i.begins.waited;
-  };
-  starts = i.begins.starts;
-}
+-- the one that is ready may begin by its number and with its start
+pub ready_starts : (t : Setting) (h : History) (g s c : ℕ) (start : Start) (planned : Planned) → ready t h g s ≡ Some planned
+    → c ≡ begun s (events_of g h) + 1 → StartsAs h g s planned.command start → MayStart t h g s c start
+ready_starts t h g s c start planned is next starts =
+    let m = ready_may t h g s planned is in
+    subst (λ n. MayStart t h g s n start) (sym next) (record { ready = m.0; starts = subst (λ (one : Planned). StartsAs h g s one.command start) (sym m.1) starts })
 
-starts_back : (t : Setting) (plan : SessionPlan) (h : History) (g s seq : ℕ) (start : Start) → slice_get t.roster.sessions s ≡ Some plan → MayStart t h g s seq start → StartsIn plan h g s seq start
-starts_back t plan h g s seq start here m =
-    let same : ◌≡◌ {A = Option SessionPlan} (Some m.ready.plan) (Some plan) = sym m.ready.session ∙ here in
-    let one : m.ready.plan ≡ plan = cc in
-    record {
-      own = rw (← one) m.ready.own;
-      idle = m.ready.idle;
-      next = m.ready.next;
-      planned = m.ready.planned;
-      further = rw (← one) m.ready.further;
-      begins = record { waited = all_known g h m.ready.planned.after m.ready.waited; starts = m.starts };
-    }
+-- what may begin starts as the one that is ready
+pub starts_ready : (t : Setting) (h : History) (g s c : ℕ) (start : Start) (planned : Planned) → ready t h g s ≡ Some planned
+    → MayStart t h g s c start → StartsAs h g s planned.command start
+starts_ready t h g s c start planned is may =
+    let some : ready t h g s ≡ Some may.ready.planned = may_ready t h g s c may.ready in
+    let same : may.ready.planned ≡ planned = cc in
+    subst (λ (one : Planned). StartsAs h g s one.command start) same may.starts
 
--- the command of a session of the plan may begin where the test says so
-pub starts_by_plan : (t : Setting) (plan : SessionPlan) (h : History) (g s seq : ℕ) (start : Start) (b : Bool) → slice_get t.roster.sessions s ≡ Some plan
-    → (IsTrue b ↔ StartsIn plan h g s seq start) → IsTrue b ↔ MayStart t h g s seq start
-starts_by_plan t plan h g s seq start b here test =
-    (λ yes_. starts_forth t plan h g s seq start here (test.0 yes_), λ m. test.1 (starts_back t plan h g s seq start here m))
+-- where the number is that of the next command, the test of the start says whether it may begin
+pub starts_where : (t : Setting) (h : History) (g s c : ℕ) (start : Start) (planned : Planned) (b : Bool) → ready t h g s ≡ Some planned
+    → c ≡ begun s (events_of g h) + 1 → (IsTrue b ↔ StartsAs h g s planned.command start) → IsTrue b ↔ MayStart t h g s c start
+starts_where t h g s c start planned b is next test =
+    (λ yes_. ready_starts t h g s c start planned is next (test.0 yes_), λ may. test.1 (starts_ready t h g s c start planned is may))

@@ -1,15 +1,10 @@
 -- Which commands of a gateway are begun and not replied.
-use Rattle.std.specs.Prelude.{◌≡◌, ℕ, ◌+◌, ◌==◌, Bool, true, false, Option, Some, None, slice_get}
+use Rattle.std.specs.Prelude.{◌≡◌, ℕ, ◌+◌, true, slice_get}
 use Rattle.ov_session.specs.Events.{begun, replied}
-use Rattle.ov_session.specs.declared.plan.SessionPlan.{SessionPlan}
 use Rattle.ov_session.specs.declared.roster.Roster.{Roster}
+use Rattle.ov_history.specs.Gives.{is_own}
 use Rattle.ov_history.specs.Past.{History}
 use Rattle.ov_history.specs.Sessions.{events_of}
-
--- whether the plan is one of the gateway
-abbrev pub is_own : ℕ → Option SessionPlan → Bool
-is_own g None = false
-is_own g (Some plan) = plan.gate == g
 
 -- The session is the gateway's, and the command is begun and not replied.
 pub record IsOpen (roster : Roster) (h : History) (g s c : ℕ) : Type 0 where

@@ -1,11 +1,13 @@
 //! When an entry of a gateway may follow.
-ghost use Rattle.std.specs.Prelude.{◌≡◌, ◌≢◌, ◌<◌, ℕ, length, slice_get, IfOk, IsTrue, ◌↔◌};
-ghost use Rattle.ov_topology.specs.Shape.{Shape};
+ghost use Rattle.std.specs.Prelude.{◌≡◌, ◌≢◌, ◌+◌, ◌<◌, ℕ, length, max, slice_get, IfOk, IsTrue, ◌↔◌};
+ghost use Rattle.ov_topology.specs.Shape.{Shape, gates};
 ghost use Rattle.ov_topology.specs.declared.actor.Actor.TheVariants.{Gate};
 ghost use Rattle.ov_gossip.specs.Marks.{mark_at};
-ghost use Rattle.ov_history.specs.Marks.{marks};
+ghost use Rattle.ov_history.specs.Draws.{last};
+ghost use Rattle.ov_history.specs.Gives.{is_open, is_own};
+ghost use Rattle.ov_history.specs.Marks.{marks, top_time};
 ghost use Rattle.ov_history.specs.May.{GateGuard, MayHear, MayPublish, MayReply, MayTell};
-ghost use Rattle.ov_judge.specs.Replies.{is_own, IsOpen};
+ghost use Rattle.ov_judge.specs.Replies.{IsOpen};
 
 use crate::draws::last;
 use crate::letter::{letter_at, takes};
@@ -88,9 +90,7 @@ fn may_publish(
 ) -> Result<bool, Memory>
     ensures { IfOk result (λ may. IsTrue may ↔ MayPublish topology.now history.now gate time vector.now) }
 {
-    let top = top_time(Actor::Gate(gate), topology.gateways(), history);
-    let least = (last(gate, history) + 1).max(top);
-    if !is_time(least, time)
+    if !is_time(least_time(topology, gate, history), time)
         || vector.count() != topology.gateways()
         || !knows_others(topology, history, gate, vector)
     {
@@ -98,6 +98,14 @@ fn may_publish(
     }
     let own = own_marks(alloc, topology, gate, time, history)?;
     Ok(same(&mark_at(vector, gate), &own))
+}
+
+/// The least time at which the gateway may publish.
+pub fn least_time(topology: &Topology, gate: u32, history: &[Entry]) -> u64
+    ensures { result ≡ max (last gate history.now + 1) (top_time (Gate gate) (gates topology.now) history.now) }
+{
+    let top = top_time(Actor::Gate(gate), topology.gateways(), history);
+    (last(gate, history) + 1).max(top)
 }
 
 /// Whether the vector has of each other gateway the marks that the gateway knows.
@@ -146,12 +154,13 @@ fn may_reply(
 }
 
 /// Whether the session is the gateway's, and the command is begun and not replied.
-fn is_open(roster: &Roster, history: &[Entry], gate: u32, session: u32, seq: u32) -> bool
-    ensures { IsTrue result ↔ IsOpen roster.now history.now gate session seq }
+pub fn is_open(roster: &Roster, history: &[Entry], gate: u32, session: u32, seq: u32) -> bool
+    ensures value { (topology : Shape) → result ≡ is_open (record { topology = topology; roster = roster.now }) history.now gate session seq }
+    ensures open { IsTrue result ↔ IsOpen roster.now history.now gate session seq }
 {
     is_own(roster, gate, session)
-        && seq == begun(gate, session, history)
-        && u64::from(seq) == u64::from(replied(gate, session, history)) + 1
+        && begun(gate, session, history) == seq
+        && u64::from(replied(gate, session, history)) + 1 == u64::from(seq)
 }
 
 /// Whether the session is the gateway's.

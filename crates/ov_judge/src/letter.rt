@@ -42,7 +42,7 @@ pub fn takes(
 }
 
 /// Whether a letter is addressed to an actor.
-fn is_for(topology: &Topology, letter: &Letter, actor: Actor) -> bool
+pub fn is_for(topology: &Topology, letter: &Letter, actor: Actor) -> bool
     ensures { result ≡ is_for topology.now letter.now actor }
 {
     match letter {

@@ -29,7 +29,7 @@ pub fn may_follow(
 }
 
 /// Whether the topology has the actor.
-fn is_in(topology: &Topology, actor: Actor) -> bool
+pub fn is_in(topology: &Topology, actor: Actor) -> bool
     ensures { result ≡ is_in topology.now actor }
 {
     topology.number_of(actor).is_some()

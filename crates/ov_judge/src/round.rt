@@ -2,9 +2,10 @@
 ghost use Rattle.std.specs.Prelude.{◌≡◌, ◌≤◌, ◌<◌, ℕ, false, length, if◌then◌else◌, IfOk, IsTrue, ◌↔◌};
 ghost use Rattle.std.specs.Option.{option_map};
 ghost use Rattle.ov_event.specs.Letters.{is_settler};
-ghost use Rattle.ov_history.specs.Counts.{weight};
+ghost use Rattle.ov_history.specs.Counts.{all_below, weight};
+ghost use Rattle.ov_history.specs.Gives.{is_current, is_enough};
 ghost use Rattle.ov_history.specs.Settlers.{opened, open_round, asks, rounds, upper_end, raised, settled, takes, took, IsEnough};
-ghost use Rattle.ov_judge.specs.Rounds.{as_round, is_current};
+ghost use Rattle.ov_judge.specs.Rounds.{as_round};
 
 use crate::past::is_settler;
 use ov_base::Memory;
@@ -60,11 +61,11 @@ fn opened(kind: &Kind, old: Option<Open>) -> Option<Open>
 
 /// Whether it is the number of the settler's open round.
 pub fn is_current(settler: u32, number: u64, history: &[Entry]) -> bool
-    ensures { result ≡ is_current number (open_round settler history.now) }
+    ensures { result ≡ is_current (open_round settler history.now) number }
 {
     match open_round(settler, history) {
         None => false,
-        Some(round) => number == round.number,
+        Some(round) => round.number == number,
     }
 }
 
@@ -179,14 +180,14 @@ pub fn are_enough(
     round: Open,
     history: &[Entry],
 ) -> Result<bool, Memory>
-    ensures { IfOk result (λ enough. IsTrue enough ↔ ((p : ℕ) → p < topology.now.partitions → IsEnough topology.now settler (as_round round) p history.now round.mode)) }
+    ensures value { IfOk result (λ enough. enough ≡ all_below (is_enough topology.now settler (as_round round) history.now round.mode) topology.now.partitions) }
+    ensures each { IfOk result (λ enough. IsTrue enough ↔ ((p : ℕ) → p < topology.now.partitions → IsEnough topology.now settler (as_round round) p history.now round.mode)) }
 {
+    let mut all = true;
     for part in 0..topology.partitions() {
-        if !is_enough(alloc, topology, settler, round, part, history)? {
-            return Ok(false);
-        }
+        all = is_enough(alloc, topology, settler, round, part, history)? && all;
     }
-    Ok(true)
+    Ok(all)
 }
 
 /// Whether the partition gave answers enough to the round.
@@ -198,7 +199,7 @@ fn is_enough(
     part: u32,
     history: &[Entry],
 ) -> Result<bool, Memory>
-    ensures { IfOk result (λ enough. IsTrue enough ↔ IsEnough topology.now settler (as_round round) part history.now round.mode) }
+    ensures { IfOk result (λ enough. enough ≡ is_enough topology.now settler (as_round round) history.now round.mode part) }
 {
     match round.mode {
         Mode::Quorum => {

@@ -82,7 +82,7 @@ fn may_ask(
 }
 
 /// Up to where a round of this mode asks.
-fn upper(topology: &Topology, settler: u32, history: &[Entry], mode: Mode) -> u64
+pub fn upper(topology: &Topology, settler: u32, history: &[Entry], mode: Mode) -> u64
     ensures { result ≡ upper topology.now settler history.now mode }
 {
     match mode {

@@ -2,6 +2,7 @@
 ghost use Rattle.std.specs.Prelude.{◌≡◌, ◌∷◌, IfOk, IsTrue, ◌↔◌};
 ghost use Rattle.ov_functor.specs.Execution.{got, hold, moves_of, reply_of};
 ghost use Rattle.ov_functor.specs.Values.{just_below};
+ghost use Rattle.ov_history.specs.Gives.{reply_to};
 ghost use Rattle.ov_history.specs.Settlers.{known_below, settled, shown, Shows};
 
 use crate::plan::values_of;
@@ -22,40 +23,42 @@ pub fn shows(
 ) -> Result<bool, Memory>
     ensures { IfOk result (λ shows. IsTrue shows ↔ Shows (known_below settler history.now) (settled settler history.now) start.now reply.now) }
 {
-    let values = values_of(alloc, settler, history)?;
-    shows_values(
-        alloc,
-        values.as_slice(),
-        settled(settler, history),
-        start,
-        reply,
-    )
+    match reply_to(alloc, settler, history, start)? {
+        None => Ok(false),
+        Some(expected) => Ok(same(reply, &expected)),
+    }
 }
 
-/// Whether a reply shows these values, which are known below a watermark.
-fn shows_values(
+/// The reply that the settler can compute to a command that starts so. Only want of memory is an error.
+pub fn reply_to(
     alloc: Global,
-    values: &[Valued],
-    watermark: u64,
+    settler: u32,
+    history: &[Entry],
     start: &Start,
-    reply: &Reply,
-) -> Result<bool, Memory>
-    ensures { IfOk result (λ shows. IsTrue shows ↔ Shows (λ n. just_below n values.now) watermark start.now reply.now) }
+) -> Result<Option<Reply>, Memory>
+    ensures { IfOk result (λ reply. reply ≡ reply_to history.now settler start.now) }
 {
+    let values = values_of(alloc, settler, history)?;
+    let watermark = settled(settler, history);
     match start {
         Start::Draw {
             version,
             transaction,
         } => {
-            let expected = reply_of(alloc, values, *version, transaction.parts())?;
-            Ok(version.number() < watermark && same(reply, &expected))
+            if version.number() < watermark {
+                let parts = transaction.parts();
+                Ok(Some(reply_of(alloc, values.as_slice(), *version, parts)?))
+            } else {
+                Ok(None)
+            }
         }
         Start::Look { floor, keys } => {
-            let expected = Reply::Snap {
-                watermark,
-                shown: shown(alloc, values, watermark, keys.as_slice())?,
-            };
-            Ok(*floor <= watermark && same(reply, &expected))
+            if *floor <= watermark {
+                let shown = shown(alloc, values.as_slice(), watermark, keys.as_slice())?;
+                Ok(Some(Reply::Snap { watermark, shown }))
+            } else {
+                Ok(None)
+            }
         }
     }
 }

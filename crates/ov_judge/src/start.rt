@@ -1,19 +1,21 @@
 //! When a command may begin.
-ghost use Rattle.std.specs.Prelude.{◌≡◌, ◌+◌, ◌≤◌, ℕ, slice_get, Some, IsTrue, ◌↔◌};
+ghost use Rattle.std.specs.Prelude.{◌≡◌, ◌+◌, ◌≤◌, ℕ, Some, IsTrue, ◌↔◌};
 ghost use Rattle.std.specs.List.{list_all};
+ghost use Rattle.std.specs.Option.{option_map};
 ghost use Rattle.ov_topology.specs.Shape.{Shape};
 ghost use Rattle.ov_session.specs.Events.{floor as floor_after, known as known_after};
+ghost use Rattle.ov_session.specs.Standing.{next_of, standing_after};
 ghost use Rattle.ov_history.specs.Draws.{last};
+ghost use Rattle.ov_history.specs.Gives.{is_known, ready};
 ghost use Rattle.ov_history.specs.May.{IsTime, MayDraw, StartsAs, MayStart};
 ghost use Rattle.ov_history.specs.Sessions.{events_of};
-ghost use Rattle.ov_judge.specs.Starts.{is_known, StartsBy, StartsIn};
 
 use crate::draws::last;
 use crate::sessions::{begun, floor, known, replied};
 use ov_base::{Version, same};
 use ov_event::{Entry, Start};
 use ov_functor::Command;
-use ov_session::{After, Planned, Roster, SessionPlan};
+use ov_session::{After, Planned, Roster};
 
 /// Whether the gateway may begin the command.
 pub fn may_start(
@@ -26,48 +28,44 @@ pub fn may_start(
 ) -> bool
     ensures { (topology : Shape) → IsTrue result ↔ MayStart (record { topology = topology; roster = roster.now }) history.now gate session seq start.now }
 {
-    match roster.sessions.as_slice().get(session as usize) {
+    match ready(roster, history, gate, session) {
         None => false,
-        Some(plan) => may_start_in(plan, history, gate, session, seq, start),
+        Some(planned) => {
+            let begun = begun(gate, session, history);
+            u64::from(seq) == u64::from(begun) + 1
+                && starts_as(history, gate, session, &planned.command, start)
+        }
     }
 }
 
-/// Whether the gateway may begin the command of a session of this plan.
-fn may_start_in(
-    plan: &SessionPlan,
+/// The next command of a session of the gateway, where it may begin.
+pub fn ready<'a>(
+    roster: &'a Roster,
     history: &[Entry],
     gate: u32,
     session: u32,
-    seq: u32,
-    start: &Start,
-) -> bool
-    ensures { IsTrue result ↔ StartsIn plan.now history.now gate session seq start.now }
+) -> Option<&'a Planned>
+    ensures { (topology : Shape) → option_map (λ planned. planned.now) result ≡ ready (record { topology = topology; roster = roster.now }) history.now gate session }
 {
+    let planned = next(roster, history, gate, session)?;
+    if are_known(gate, history, planned.after.as_slice()) {
+        Some(planned)
+    } else {
+        None
+    }
+}
+
+/// The next command of a session of the gateway, where no command is begun and not replied.
+fn next<'a>(roster: &'a Roster, history: &[Entry], gate: u32, session: u32) -> Option<&'a Planned>
+    ensures { option_map (λ planned. planned.now) result ≡ next_of roster.now gate session (standing_after session (events_of gate history.now)) }
+{
+    let plan = roster.sessions.as_slice().get(session as usize)?;
     let begun = begun(gate, session, history);
-    if plan.gate != gate
-        || begun != replied(gate, session, history)
-        || u64::from(seq) != u64::from(begun) + 1
-    {
-        return false;
+    if plan.gate == gate && begun == replied(gate, session, history) {
+        plan.planned.as_slice().get(begun as usize)
+    } else {
+        None
     }
-    match plan.planned.as_slice().get(begun as usize) {
-        None => false,
-        Some(planned) => may_start_by(planned, history, gate, session, start),
-    }
-}
-
-/// Whether all that the command waits for is known as replied, and the start is the command's.
-fn may_start_by(
-    planned: &Planned,
-    history: &[Entry],
-    gate: u32,
-    session: u32,
-    start: &Start,
-) -> bool
-    ensures { IsTrue result ↔ StartsBy planned.now history.now gate session start.now }
-{
-    are_known(gate, history, planned.after.as_slice())
-        && starts_as(history, gate, session, &planned.command, start)
 }
 
 /// Whether all these commands are known as replied.

@@ -1,5 +1,6 @@
 //! The judge on the first example's journal, on changed entries, and on small histories of other kinds.
 mod changed;
+mod given;
 mod journal;
 mod others;
 mod rounds;
