@@ -30,6 +30,7 @@ calm_round t h = passed t h round_passes
 
 -- ---- until all is replied
 
+-- how many commands these sessions have
 abbrev pub count : List SessionPlan → ℕ
 count [] = 0
 count (plan ∷ plans) = length plan.planned + count plans
@@ -38,6 +39,7 @@ count (plan ∷ plans) = length plan.planned + count plans
 abbrev pub commands : Setting → ℕ
 commands t = count t.roster.sessions
 
+-- whether every command of these sessions is replied; the first has this number
 abbrev pub all_replied_from : ℕ → List SessionPlan → History → Bool
 all_replied_from s [] h = true
 all_replied_from s (plan ∷ plans) h = all_below (λ c. is_replied s (c + 1) h) (length plan.planned) && all_replied_from (s + 1) plans h
@@ -46,6 +48,7 @@ all_replied_from s (plan ∷ plans) h = all_below (λ c. is_replied s (c + 1) h)
 abbrev pub all_replied : Setting → History → Bool
 all_replied t h = all_replied_from 0 t.roster.sessions h
 
+-- whether an entry replies
 abbrev pub is_reply : Kind → Bool
 is_reply (kinds.Replied place s c reply) = true
 is_reply other = false
@@ -59,6 +62,6 @@ abbrev pub calm_rounds : ℕ → Setting → History → History
 calm_rounds zero t h = h
 calm_rounds (suc n) t h = if all_replied t h then h else (if replies (calm_round t h) == replies h then calm_round t h else calm_rounds n t (calm_round t h))
 
--- the history after calm rounds, for which one round for each command and one more are enough
+-- the history after calm rounds, of which there are at most one more than there are commands
 abbrev pub calm : Setting → History → History
 calm t h = calm_rounds (commands t + 1) t h

@@ -29,7 +29,8 @@ pub record IsCommand (roster : Roster) (s c : ℕ) (command : Command) : Type 0 
   pub planned_is : slice_get plan.planned number ≡ Some planned
   pub command_is : planned.command ≡ command
 
--- the serial map: what executing, one at a time in the order of their versions, all begun transactions with versions below n gives
+-- the serial map just below n, as a fold that can be computed: what executing, one at a time in the order of their versions, the list of
+-- all begun transactions with versions below n gives
 abbrev pub serial_before : History → ℕ → Map
 serial_before h n = folded (begins h) n
 

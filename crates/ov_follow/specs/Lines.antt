@@ -24,11 +24,11 @@ pub record Line : Type 0 where
 abbrev pub begin_line : ℕ → ℕ → SessionPlan → Line
 begin_line s clock plan = record { actor = Gate plan.gate; act = acts.Begin s clock }
 
--- the number of the session of this name
+-- the number of the first session of this name, where there is one
 abbrev pub session_named : Roster → List ℕ → Option ℕ
 session_named roster name = place_in name (map (λ plan. plan.name) roster.sessions)
 
--- that line for the session of this number
+-- the line by which the next command of the session of this number begins, where there is such a session
 abbrev pub begin_of : Roster → ℕ → ℕ → Option Line
 begin_of roster clock s = option_map (begin_line s clock) (slice_get roster.sessions s)
 
@@ -50,6 +50,7 @@ abbrev pub followed_all : Setting → History → List Line → History
 followed_all t h [] = h
 followed_all t h (line ∷ lines) = followed_all t (followed t h line) lines
 
+-- the history after a line, where there is one
 abbrev pub followed_some : Setting → History → Option Line → History
 followed_some t h None = h
 followed_some t h (Some line) = followed t h line

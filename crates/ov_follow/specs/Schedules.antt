@@ -157,6 +157,10 @@ gateway_stops = Stop (Gate 1) ∷ []
 abbrev pub node_stops : List Step
 node_stops = Stop (Node 1 0) ∷ []
 
+-- a settler asks, and stops
+abbrev pub asks_and_stops : List Step
+asks_and_stops = Publish 0 5 ∷ Take (Settler 0) (letter 1 1) ∷ Ask 0 Quorum ∷ Stop (Settler 0) ∷ []
+
 -- ---- transfers
 
 -- z of g0: put p, q and r 100; a, b and c of the three gateways move p to q, q to r and r to p; then z gets p, q and r

@@ -5,8 +5,8 @@ use Rattle.ov_topology.specs.declared.actor.Actor.TheVariants.{Gate, Node, Settl
 use Rattle.ov_history.specs.Past.{History, stopped}
 use Rattle.ov_history.specs.Counts.{weight}
 
--- The world is whole: no gateway and no settler has stopped, and of each partition nodes run in centres enough for a write and a read
--- quorum.
+-- The world is whole: no gateway and no settler has stopped, and of each partition nodes run in centres enough for the greater of the
+-- two quorums.
 pub record IsWhole (t : Shape) (h : History) : Type 0 where
   pub gateways : (g : ℕ) → g < gates t → stopped (Gate g) h ≡ false
   pub settlers : (s : ℕ) → s < t.centres → stopped (Settler s) h ≡ false

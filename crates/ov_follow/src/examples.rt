@@ -21,7 +21,7 @@ ghost use Rattle.ov_follow.specs.Expected.{IsExpected};
 ghost use Rattle.ov_follow.specs.Whole.{IsWhole};
 ghost use Rattle.ov_follow.specs.First.{setting, journal};
 ghost use Rattle.ov_follow.specs.Worlds.{letter, triple, with, minus, numbers, begins_at, told, to, three_centres, two_gateways};
-ghost use Rattle.ov_follow.specs.Schedules.{short_move, put_by_one, heard_one, heard_both, put_in_three, repeated, gathered, settled_by_quorum, settled_by_one, too_few, replaced, item_x, no_command, late, waiting, too_early, put_beside_none, transfers, two_snaps, put_and_snap, unheard, one_put, early_mark, gateway_stops, node_stops, put_x7, put_x5, put_a3, move_a_b2, get_beside_add, whole_move, full_key, empty_keys, two_puts, greatest_clock, put_beside_snap, heard_not_settled, replied_again};
+ghost use Rattle.ov_follow.specs.Schedules.{short_move, put_by_one, heard_one, heard_both, put_in_three, repeated, gathered, settled_by_quorum, settled_by_one, too_few, replaced, item_x, no_command, late, waiting, too_early, put_beside_none, transfers, two_snaps, put_and_snap, unheard, one_put, early_mark, gateway_stops, node_stops, asks_and_stops, put_x7, put_x5, put_a3, move_a_b2, get_beside_add, whole_move, full_key, empty_keys, two_puts, greatest_clock, put_beside_snap, heard_not_settled, replied_again};
 
 /// A put and a get: calm rounds over an empty history give the whole journal, entry by entry.
 pub fn put_and_get()
@@ -116,6 +116,12 @@ pub fn stopped_actors()
     ensures broken { IsWhole two_gateways (calm put_beside_none (drive put_beside_none [] gateway_stops)) → ⊥ }
     ensures replies { told (calm put_in_three (drive put_in_three [] node_stops)) ≡ to 0 1 (Done (number 1 0) []) ∷ [] }
     ensures whole { IsWhole three_centres (calm put_in_three (drive put_in_three [] node_stops)) }
+{}
+
+/// The open round of a stopped settler is not served: a calm round begins the command, stores it, acknowledges it and publishes twice.
+pub fn round_of_a_stopped_settler()
+    ensures lines { numbers one_put [] asks_and_stops ≡ 1 ∷ 2 ∷ 3 ∷ 4 ∷ [] }
+    ensures calm { length (calm one_put (drive one_put [] asks_and_stops)) ≡ 9 }
 {}
 
 /// Transfers of three gateways over four partitions and three centres: all are done, and the last get shows their sum.

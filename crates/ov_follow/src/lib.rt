@@ -16,7 +16,8 @@ pub use examples::{
     greatest_reading_of_a_clock, late_vector_lowers_nothing, mark_before_the_first_draw,
     move_that_does_not_hold, move_that_holds, one_answer_too_few, plan_of_a_put_and_a_move,
     put_and_get, quorum_round_with_an_empty_answer, repeats_count_once, replied_once,
-    snapshot_before_anything_is_heard, snapshot_before_settling, snapshots_of_one_session,
-    stopped_actors, transfers_of_three_gateways, two_rounds_of_one_centre,
+    round_of_a_stopped_settler, snapshot_before_anything_is_heard, snapshot_before_settling,
+    snapshots_of_one_session, stopped_actors, transfers_of_three_gateways,
+    two_rounds_of_one_centre,
 };
 pub use laws::what_is_followed_is_lawful;
