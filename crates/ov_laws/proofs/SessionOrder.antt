@@ -187,6 +187,16 @@ look_floor : (h : History) (g s : ℕ) (command : Command) (least : ℕ) (keys :
 look_floor h g s (commands.Transact parts) least keys starts = absurd starts
 look_floor h g s (commands.Snap list) least keys starts = starts.1
 
+-- the floor of a snapshot that begins after a reply of its session is not below what that reply reaches
+pub floor_after_reply : (t : Setting) (h : History) (j i g f s c d least : ℕ) (place : Place) (reply : Reply) (keys : List (List ℕ)) → Lawful t h → j < i
+    → at h j ≡ Some (replied_by g s c place reply) → at h i ≡ Some (began_by f s d (Look least keys)) → floor_of reply ≤ least
+floor_after_reply t h j i g f s c d least place reply keys lawful less there here =
+    let same : g ≡ f = own_once t g f s (replied_own t h j g s c place reply lawful there) (began_own t h i f s d (Look least keys) lawful here) in
+    let may = began_may t h i f s d (Look least keys) lawful here in
+    let bound : floor_of reply ≤ floor s (events_of f (before i h)) = floor_before_entry h j i f s c place reply (there ∙ ap (λ m. Some (replied_by m s c place reply)) same) less (at_most h i _ here) in
+    let floor_is : least ≡ floor s (events_of f (before i h)) = look_floor (before i h) f s may.ready.planned.command least keys may.starts in
+    omega (arith, bound, floor_is)
+
 -- an entry that begins a command is not one that replies
 not_both : (h : History) (i g f s c d : ℕ) (start : Start) (place : Place) (reply : Reply) → at h i ≡ Some (began_by g s c start) → at h i ≡ Some (replied_by f s d place reply) → ⊥
 not_both h i g f s c d start place reply began replied =
@@ -212,13 +222,8 @@ snap_after_reply t shape h j k g f s c d n place from reply list lawful less the
     let expected = replied_is_expected t shape h k f s d from (Snap n list) lawful here in
     let i = expected.number in
     let rises : c < d = replies_rise t h j k g f s c d place from reply (Snap n list) lawful less there here in
-    let same : g ≡ f = own_once t g f s (replied_own t h j g s c place reply lawful there) (replied_own t h k f s d from (Snap n list) lawful here) in
-    let may = began_may t h i f s d expected.start lawful expected.begun in
     let later : j < i = above_by i j
     (λ low. let bad : d ≤ c = reply_after_begin t h i j f g s d c expected.start place reply lawful low expected.begun there in omega (arith, bad, rises))
     (λ one. not_both h j f g s d c expected.start place reply (ap (at h) (sym one) ∙ expected.begun) there) in
-    let bound : floor_of reply ≤ floor s (events_of f (before i h)) = floor_before_entry h j i f s c place reply (there ∙ ap (λ m. Some (replied_by m s c place reply)) same) later (at_most h i _ expected.begun) in
-    snap_above (serial_at h) expected.watermark n expected.start list (floor_of reply) expected.shows (λ least keys is.
-    let starts : StartsAs (before i h) f s may.ready.planned.command (Look least keys) = subst (λ (start : Start). StartsAs (before i h) f s may.ready.planned.command start) is may.starts in
-    let floor_is : least ≡ floor s (events_of f (before i h)) = look_floor (before i h) f s may.ready.planned.command least keys starts in
-    omega (arith, bound, floor_is))
+    snap_above (serial_at h) expected.watermark n expected.start list (floor_of reply) expected.shows
+    (λ least keys is. floor_after_reply t h j i g f s c d least place reply keys lawful later there (expected.begun ∙ ap (λ (start : Start). Some (began_by f s d start)) is))

@@ -12,6 +12,7 @@ ghost use Rattle.ov_topology.specs.declared.place.Place.{Place};
 ghost use Rattle.ov_session.specs.Events.{floor_of};
 ghost use Rattle.ov_event.specs.declared.entry.Entry as entries;
 ghost use Rattle.ov_event.specs.declared.start.Start.{Start};
+ghost use Rattle.ov_event.specs.declared.start.Start.TheVariants.{Look};
 ghost use Rattle.ov_event.specs.declared.kind.Kind.TheVariants.{Began, Settled, Replied};
 ghost use Rattle.ov_history.specs.Past.{History, at};
 ghost use Rattle.ov_history.specs.Draws.{Drawn, drawn_in};
@@ -44,13 +45,14 @@ pub fn order()
 
 /// The commands of a session begin, and are replied, in the order of their numbers, each at most once, whichever gateways say so; a
 /// reply after the beginning of a command is one of that command or of a later one, and a beginning after a reply is one of a later
-/// command; and a snapshot is not below what an earlier reply of its session reaches: its watermark is above the version of a
-/// transaction, and at least that of a snapshot.
+/// command; and a snapshot is not below what an earlier reply of its session reaches: its floor, and so its watermark, is above the
+/// version of a transaction, and at least the watermark of a snapshot.
 pub fn session_order()
     ensures begins { (t : Setting) (h : History) (i j g f s c d : ℕ) (start other : Start) → Lawful t h → i < j → at h i ≡ Some (record { actor = Gate g; kind = Began s c start }) → at h j ≡ Some (record { actor = Gate f; kind = Began s d other }) → c < d }
     ensures replies { (t : Setting) (h : History) (i j g f s c d : ℕ) (place from : Place) (reply other : Reply) → Lawful t h → i < j → at h i ≡ Some (record { actor = Gate g; kind = Replied place s c reply }) → at h j ≡ Some (record { actor = Gate f; kind = Replied from s d other }) → c < d }
     ensures replied { (t : Setting) (h : History) (i j g f s c d : ℕ) (start : Start) (place : Place) (reply : Reply) → Lawful t h → i < j → at h i ≡ Some (record { actor = Gate g; kind = Began s c start }) → at h j ≡ Some (record { actor = Gate f; kind = Replied place s d reply }) → c ≤ d }
     ensures begun { (t : Setting) (h : History) (i j g f s c d : ℕ) (place : Place) (reply : Reply) (start : Start) → Lawful t h → i < j → at h i ≡ Some (record { actor = Gate g; kind = Replied place s c reply }) → at h j ≡ Some (record { actor = Gate f; kind = Began s d start }) → c < d }
+    ensures floors { (t : Setting) (h : History) (j i g f s c d least : ℕ) (place : Place) (reply : Reply) (keys : List (List ℕ)) → Lawful t h → j < i → at h j ≡ Some (record { actor = Gate g; kind = Replied place s c reply }) → at h i ≡ Some (record { actor = Gate f; kind = Began s d (Look least keys) }) → floor_of reply ≤ least }
     ensures snaps { (t : Setting) (h : History) (j k g f s c d n : ℕ) (place from : Place) (reply : Reply) (list : List Shown) → IsShape t.topology → Lawful t h → j < k → at h j ≡ Some (record { actor = Gate g; kind = Replied place s c reply }) → at h k ≡ Some (record { actor = Gate f; kind = Replied from s d (Snap n list) }) → floor_of reply ≤ n }
 {}
 
