@@ -19,8 +19,9 @@ use ov_session::Roster;
 use ov_topology::{Actor, Mode, Place, Topology};
 use std::alloc::Global;
 
-/// What the gateway gives that is to begin the next command of a session at a reading of its clock. Here and in the other five
-/// calls the newest entry of the history stands first, and only want of memory is an error.
+/// What the gateway gives that is to begin the next command of a session at a reading of its clock. An error is want of memory, or
+/// that the command's number is above the greatest `u32`, which it is not where the roster fits ([`Roster::fits`]). Here and in the
+/// other five calls the newest entry of the history stands first; in those only want of memory is an error.
 pub fn give_begin(
     alloc: Global,
     topology: &Topology,

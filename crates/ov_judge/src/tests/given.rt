@@ -42,7 +42,7 @@ fn gives(alloc: Global, history: &[Entry], act: Act) -> Result<Option<Entry>, Fa
 }
 
 /// The act of the journal's entry of this number.
-fn act(number: u64) -> Act {
+fn act_of(number: u64) -> Act {
     match number {
         1 | 14 => Act::Begin(0),
         4 | 6 | 15 | 17 => Act::Publish(0),
@@ -74,7 +74,7 @@ fn taken_at(number: u64) -> Place {
 fn the_journal_is_given_one_entry_after_another(rt: HostRuntime) -> Result<(), Fail> {
     let mut entries = Vec::new(rt.alloc());
     for number in 1..25 {
-        let given = gives(rt.alloc(), entries.as_slice(), act(number))?.ok_or("an entry")?;
+        let given = gives(rt.alloc(), entries.as_slice(), act_of(number))?.ok_or("an entry")?;
         assert!(rt; same(&given, &entry(rt.alloc(), number)?), "{number}");
         entries.insert(0, given)?;
     }
@@ -195,16 +195,16 @@ fn is_none_after(alloc: Global, count: u64, stop: Entry, act: Act) -> Result<boo
 fn a_gateway_that_stopped_gives_nothing(rt: HostRuntime) -> Result<(), Fail> {
     assert!(rt; is_none_after(rt.alloc(), 13, by_gate(Kind::Stopped), Act::Begin(0))?);
     assert!(rt; is_none_after(rt.alloc(), 13, by_gate(Kind::Stopped), Act::Publish(0))?);
-    assert!(rt; is_none_after(rt.alloc(), 2, by_gate(Kind::Stopped), act(3))?);
+    assert!(rt; is_none_after(rt.alloc(), 2, by_gate(Kind::Stopped), act_of(3))?);
     assert!(rt; is_none_after(rt.alloc(), 2, by_gate(Kind::Stopped), Act::Stop(GATE))?);
     Ok(())
 }
 
 #[test]
 fn a_node_or_settler_that_stopped_gives_nothing(rt: HostRuntime) -> Result<(), Fail> {
-    assert!(rt; is_none_after(rt.alloc(), 1, by_node(Kind::Stopped), act(2))?);
-    assert!(rt; is_none_after(rt.alloc(), 7, by_settler(Kind::Stopped), act(8))?);
-    assert!(rt; is_none_after(rt.alloc(), 10, by_settler(Kind::Stopped), act(11))?);
-    assert!(rt; is_none_after(rt.alloc(), 11, by_settler(Kind::Stopped), act(12))?);
+    assert!(rt; is_none_after(rt.alloc(), 1, by_node(Kind::Stopped), act_of(2))?);
+    assert!(rt; is_none_after(rt.alloc(), 7, by_settler(Kind::Stopped), act_of(8))?);
+    assert!(rt; is_none_after(rt.alloc(), 10, by_settler(Kind::Stopped), act_of(11))?);
+    assert!(rt; is_none_after(rt.alloc(), 11, by_settler(Kind::Stopped), act_of(12))?);
     Ok(())
 }
