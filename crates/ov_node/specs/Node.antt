@@ -1,14 +1,19 @@
 -- What a node core is, which histories it stands for, and which entries its calls make.
-use Rattle.std.specs.Prelude.{◌≡◌, ℕ, Bool, true, false, List, map}
+use Rattle.std.specs.Prelude.{◌≡◌, ℕ, Bool, true, false, List, map, Option, Some}
+use Rattle.std.specs.List.{filter}
 use Rattle.ov_functor.specs.Placeholder.{Placeholder}
 use Rattle.ov_functor.specs.declared.item.Item.{Item}
 use Rattle.ov_topology.specs.declared.actor.Actor.{Actor}
 use Rattle.ov_topology.specs.declared.actor.Actor.TheVariants.{Node}
 use Rattle.ov_event.specs.declared.kind.Kind.{Kind}
 use Rattle.ov_event.specs.declared.kind.Kind.TheVariants.{Stored, Answered}
+use Rattle.ov_event.specs.declared.letter.Letter.{Letter}
+use Rattle.ov_event.specs.declared.letter.Letter.TheVariants.{Ask}
+use Rattle.ov_event.specs.Letters.{is_asked}
+use Rattle.ov_topology.specs.declared.mode.Mode.{Mode}
 use Rattle.ov_lists.specs.Entries as lists
 use Rattle.ov_history.specs.Past.{History}
-use Rattle.ov_history.specs.Nodes.{held}
+use Rattle.ov_history.specs.Nodes.{held, is_inside}
 use Rattle.ov_history.specs.May.{Setting}
 use Rattle.ov_history.specs.Cores.{Runs}
 
@@ -43,3 +48,12 @@ stores other = false
 abbrev pub answers : Kind → Bool
 answers (Answered place settler round items) = true
 answers other = false
+
+-- A letter asks the node in a round of the settler, and the items are all that it holds in the window asked for.
+pub record Asks (node : NodeState) (letter : Option Letter) (settler round : ℕ) (items : List Item) : Type 0 where
+  pub mode : Mode
+  pub from : ℕ
+  pub below : ℕ
+  pub sent : letter ≡ Some (Ask settler round mode from below)
+  pub asked : is_asked settler mode (Node node.centre node.part) ≡ true
+  pub all : items ≡ filter (is_inside from below) node.items
