@@ -1,8 +1,9 @@
 //! The node of partition 0 in centre 1, on letters that come once, twice, in either order or to others, and on windows.
 mod admitted;
-mod calls;
 mod letters;
+mod stopped;
 mod windows;
+mod writes;
 
 use crate::NodeCore;
 use ov_base::{Amount, Key, Sequence, Version, same};
@@ -144,4 +145,11 @@ fn gives(
 /// Whether the node holds just these items.
 fn holds(alloc: Global, core: &mut NodeCore, rows: &[Row]) -> Result<bool, Fail> {
     gives(alloc, core, 0, 1 << 63, rows)
+}
+
+/// The node that holds `x` at 1.0 alone.
+fn with_x(alloc: Global) -> Result<NodeCore, Fail> {
+    let mut core = node(alloc);
+    let _ = stores(alloc, &mut core, ONE, &[(ONE, b'x', 5)])?;
+    Ok(core)
 }
