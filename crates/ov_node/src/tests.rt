@@ -1,5 +1,6 @@
 //! The node of partition 0 in centre 1, on letters that come once, twice, in either order or to others, and on windows.
 mod admitted;
+mod first;
 mod letters;
 mod stopped;
 mod windows;
