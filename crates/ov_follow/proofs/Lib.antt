@@ -1,2 +1,4 @@
 pub mod Wholes
 pub mod Lawful
+pub mod Replies
+pub mod Rounds

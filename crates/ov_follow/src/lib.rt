@@ -20,4 +20,4 @@ pub use examples::{
     snapshots_of_one_session, stopped_actors, transfers_of_three_gateways,
     two_rounds_of_one_centre,
 };
-pub use laws::what_is_followed_is_lawful;
+pub use laws::{calm_has_rounds_enough, what_is_followed_is_lawful};
