@@ -62,6 +62,6 @@ abbrev pub calm_rounds : ℕ → Setting → History → History
 calm_rounds zero t h = h
 calm_rounds (suc n) t h = if all_replied t h then h else (if replies (calm_round t h) == replies h then calm_round t h else calm_rounds n t (calm_round t h))
 
--- the history after calm rounds, of which there are at most one more than there are commands
+-- the history after calm rounds; one more than there are commands are enough, since each but the last makes a reply
 abbrev pub calm : Setting → History → History
 calm t h = calm_rounds (commands t + 1) t h

@@ -17,6 +17,6 @@ pub fn what_is_followed_is_lawful()
 /// Calm rounds need no more rounds than they are given: in a lawful history there are no more replies than commands, and each round
 /// that is not the last makes one.
 pub fn calm_has_rounds_enough()
-    ensures replies { (t : Setting) (h : History) → IsShape t.topology → Lawful t h → replies h ≤ commands t }
+    ensures replies { (t : Setting) (h : History) → Lawful t h → replies h ≤ commands t }
     ensures rounds { (t : Setting) (h : History) (n : ℕ) → IsShape t.topology → Lawful t h → commands t + 1 ≤ n → calm_rounds n t h ≡ calm t h }
 {}
