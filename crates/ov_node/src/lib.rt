@@ -8,6 +8,8 @@
 
 mod laws;
 mod node;
+#[cfg(test)]
+mod tests;
 
 pub use laws::node_stays;
 pub use node::NodeCore;
