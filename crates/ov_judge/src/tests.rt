@@ -1,10 +1,14 @@
-//! The judge on the first example's journal, on changed entries, and on small histories of other kinds.
+//! The judge on the first example's journal, on changed entries, on small histories of other kinds, and on whole worked examples.
 mod changed;
+mod examples;
 mod given;
 mod journal;
 mod others;
+mod passes;
 mod rounds;
 mod two;
+mod world;
+mod wrong;
 
 ghost use Rattle.std.specs.Prelude.{◌≡◌};
 ghost use Rattle.std.specs.List.{list_all};
