@@ -1,16 +1,9 @@
-//! Vectors of two gateways, raised and merged, against worked examples. Marks are numbers of versions, `time *
-//! 65536 + gate`.
-mod equal;
-mod places;
-mod watermarks;
-
-ghost use Rattle.std.specs.Prelude.{◌≡◌, length};
-
+//! A vector of two gateways on a worked example. Marks are numbers of versions, `time * 65536 + gateway`.
 use crate::{Marks, Vector};
+use ov_base::Plain;
+use std::test::Fail;
 
-/// Versions `1.0` to `6.0`.
-const ONE: u64 = 65536;
-
+/// Versions `2.0` to `6.0`.
 const TWO: u64 = 131_072;
 
 const THREE: u64 = 196_608;
@@ -25,30 +18,31 @@ const fn marks(low: u64, full: u64, done: u64) -> Marks {
     Marks { low, full, done }
 }
 
-/// Raised at gateway 0 to `5.0 4.0 3.0`.
-fn raised() -> Vector
-    ensures { length result ≡ 2 }
-{
+#[test]
+fn hearing_takes_the_greater_marks_and_watermarks_are_the_least(
+    rt: HostRuntime,
+) -> Result<(), Fail> {
     let mut vector = Vector::new(2);
     vector.raise(0, marks(FIVE, FOUR, THREE));
-    vector
+    assert_eq!(rt; vector.visible(), 0);
+    let mut other = Vector::new(2);
+    other.raise(0, marks(THREE, SIX, TWO));
+    other.raise(1, marks(FOUR, THREE, TWO));
+    vector.merge(&other);
+    assert!(rt; vector.mark(0) == marks(FIVE, SIX, THREE));
+    assert!(rt; vector.mark(1) == marks(FOUR, THREE, TWO));
+    assert_eq!(rt; vector.visible(), FOUR);
+    assert_eq!(rt; vector.replicated(), THREE);
+    assert_eq!(rt; vector.finished(), TWO);
+    assert_eq!(rt; vector.top_time(), 5);
+    Ok(())
 }
 
-/// `3.0 6.0 1.0` and `2.0 2.0 2.0`.
-fn other() -> Vector
-    ensures { length result ≡ 2 }
-{
-    let mut vector = Vector::new(2);
-    vector.raise(0, marks(THREE, SIX, ONE));
-    vector.raise(1, marks(TWO, TWO, TWO));
-    vector
-}
-
-/// The one, merged with the other.
-fn merged() -> Vector
-    ensures { length result ≡ 2 }
-{
-    let mut vector = raised();
-    vector.merge(&other());
-    vector
+#[test]
+fn a_copy_equals_its_source(rt: HostRuntime) -> Result<(), Fail> {
+    let mut vector = Vector::new(8);
+    vector.raise(7, marks(FIVE, FOUR, THREE));
+    assert!(rt; vector.copy()? == vector);
+    assert!(rt; vector.mark(7).copy()? == vector.mark(7));
+    Ok(())
 }

@@ -1,37 +1,22 @@
-//! Tests of the trusted edge, of which no clause tells content.
-use crate::{FileShelf, Shelf, ShelfError, Sink, StdoutSink};
+//! A test of the trusted edge, of which no clause tells content. What standard output takes is seen where the
+//! program runs.
+use crate::{FileShelf, Shelf, ShelfError};
+use std::fs;
 use std::test::Fail;
-use std::{fs, io};
 
 #[test]
 fn real_files_are_read_within_the_limit(rt: HostRuntime) -> Result<(), Fail> {
-    fs::write(&rt, "five", "12345")?;
     let long = vec![in rt.alloc(); b'x'; 10_000]?;
     fs::write(&rt, "long", long.as_slice())?;
     let mut shelf = FileShelf::new(&rt);
-    let five = shelf.read(rt.alloc(), "five", 5).ok().ok_or("five bytes")?;
-    assert_eq!(rt; five.as_slice(), b"12345".as_slice());
-    let whole = shelf
-        .read(rt.alloc(), "long", 10_000)
-        .ok()
-        .ok_or("all bytes")?;
-    assert_eq!(rt; whole.len(), 10_000);
-    for (name, limit, error) in [
-        ("five", 4, ShelfError::TooLong),
-        ("long", 9_999, ShelfError::TooLong),
-        ("missing", 5, ShelfError::Failed),
-        (".", 5, ShelfError::Failed),
-        ("", 5, ShelfError::Failed),
-    ] {
-        let answer = shelf.read(rt.alloc(), name, limit).err().ok_or("an error")?;
-        assert_eq!(rt; answer, error, "{name}");
+    let whole = shelf.read(rt.alloc(), "long", 10_000).ok();
+    let cut = shelf.read(rt.alloc(), "long", 9_999).err();
+    fs::remove_file(&rt, "long")?;
+    assert_eq!(rt; whole.ok_or("all bytes")?.as_slice(), long.as_slice());
+    assert_eq!(rt; cut.ok_or("an error")?, ShelfError::TooLong);
+    for name in ["long", ".", ""] {
+        let answer = shelf.read(rt.alloc(), name, 5).err().ok_or("an error")?;
+        assert_eq!(rt; answer, ShelfError::Failed, "{name}");
     }
-    Ok(())
-}
-
-#[test]
-fn a_real_writer_takes_the_bytes(rt: HostRuntime) -> Result<(), Fail> {
-    let mut out = StdoutSink::new(io::writer(&rt));
-    assert!(rt; out.put(rt.alloc(), b"written\n").is_ok());
     Ok(())
 }

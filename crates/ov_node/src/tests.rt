@@ -1,13 +1,9 @@
-//! The node of partition 0 in centre 1, on letters that come once, twice, in either order or to others, and on windows.
+//! The node of partition 0 in centre 1: what its calls answer, one after another, and which entries it admits.
 mod admitted;
-mod first;
-mod letters;
-mod stopped;
-mod windows;
-mod writes;
+mod calls;
 
 use crate::NodeCore;
-use ov_base::{Amount, Key, Sequence, Version, same};
+use ov_base::{Amount, Key, Sequence, Version};
 use ov_event::{Entry, Kind, Letter};
 use ov_functor::{Effect, Functor, Item};
 use ov_topology::{Actor, Mode, Place};
@@ -29,10 +25,6 @@ const HERE: Place = Place {
 /// An item: the number of its version, its key, and the amount that it puts.
 type Row = (u64, u8, i64);
 
-fn node(alloc: Global) -> NodeCore {
-    NodeCore::new(alloc, 1, 0)
-}
-
 fn version(number: u64) -> Result<Version, Fail> {
     Ok(Version::from_number(number).ok_or("a version")?)
 }
@@ -49,11 +41,11 @@ fn item(alloc: Global, row: &Row) -> Result<Item, Fail> {
 }
 
 fn items(alloc: Global, rows: &[Row]) -> Result<Sequence<Item>, Fail> {
-    let mut items = Vec::new(alloc);
+    let mut items = Sequence::new(alloc);
     for row in rows {
         items.push(item(alloc, row)?)?;
     }
-    Ok(Sequence::from_vec(items))
+    Ok(items)
 }
 
 /// The letter that says to write these items at the version of this number.
@@ -66,7 +58,7 @@ fn write(alloc: Global, number: u64, part: u32, rows: &[Row]) -> Result<Letter, 
 }
 
 /// The letter by which a settler asks for a window in its round 3.
-const fn ask(settler: u32, mode: Mode, from: u64, below: u64) -> Letter {
+fn ask(settler: u32, mode: Mode, from: u64, below: u64) -> Letter {
     Letter::Ask {
         settler,
         round: 3,
@@ -92,65 +84,19 @@ fn stored(alloc: Global, number: u64, rows: &[Row]) -> Result<Entry, Fail> {
     }))
 }
 
-/// The entry of the node that answered a round with these items.
-fn answered(alloc: Global, settler: u32, round: u64, rows: &[Row]) -> Result<Entry, Fail> {
+/// The entry of the node that answered round 3 of a settler with these items.
+fn answered(alloc: Global, settler: u32, rows: &[Row]) -> Result<Entry, Fail> {
     Ok(by_node(Kind::Answered {
         place: HERE,
         settler,
-        round,
+        round: 3,
         items: items(alloc, rows)?,
     }))
 }
 
-fn is_entry(answer: Option<Entry>, wanted: &Entry) -> bool {
-    match answer {
-        Some(entry) => same(&entry, wanted),
-        None => false,
-    }
-}
-
-fn store(core: &mut NodeCore, letter: &Letter) -> Result<Option<Entry>, Fail> {
-    Ok(core.store(HERE, letter)?)
-}
-
-fn answer(core: &mut NodeCore, letter: &Letter) -> Result<Option<Entry>, Fail> {
-    Ok(core.answer(HERE, letter)?)
-}
-
-fn stop(core: &mut NodeCore) -> Option<Entry> {
-    core.stop()
-}
-
-fn admits(core: &NodeCore, letter: Option<&Letter>, entry: &Entry) -> Result<bool, Fail> {
-    Ok(core.admits(letter, entry)?)
-}
-
-/// Whether the node stores the items and answers that it did.
-fn stores(alloc: Global, core: &mut NodeCore, number: u64, rows: &[Row]) -> Result<bool, Fail> {
-    let given = store(core, &write(alloc, number, 0, rows)?)?;
-    Ok(is_entry(given, &stored(alloc, number, rows)?))
-}
-
-/// Whether the node answers the window with just these items.
-fn gives(
-    alloc: Global,
-    core: &mut NodeCore,
-    from: u64,
-    below: u64,
-    rows: &[Row],
-) -> Result<bool, Fail> {
-    let given = answer(core, &ask(0, Mode::Quorum, from, below))?;
-    Ok(is_entry(given, &answered(alloc, 0, 3, rows)?))
-}
-
-/// Whether the node holds just these items.
-fn holds(alloc: Global, core: &mut NodeCore, rows: &[Row]) -> Result<bool, Fail> {
-    gives(alloc, core, 0, 1 << 63, rows)
-}
-
 /// The node that holds `x` at 1.0 alone.
 fn with_x(alloc: Global) -> Result<NodeCore, Fail> {
-    let mut core = node(alloc);
-    let _ = stores(alloc, &mut core, ONE, &[(ONE, b'x', 5)])?;
+    let mut core = NodeCore::new(alloc, 1, 0);
+    let _ = core.store(HERE, &write(alloc, ONE, 0, &[(ONE, b'x', 5)])?)?;
     Ok(core)
 }

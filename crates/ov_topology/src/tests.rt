@@ -1,42 +1,42 @@
-//! Documents, actors and words on worked examples.
-mod documents;
-mod faults;
-mod numbers;
-mod words;
-
-use crate::Topology;
-use std::alloc::Global;
+//! What no document can say: topologies that are made of values, the places of their actors and keys, and
+//! copies.
+use crate::{Actor, Mode, Place, Topology};
+use ov_base::{Key, Plain};
 use std::test::Fail;
 
-/// One of each.
-const SMALL: &str = "centres = 1
-partitions = 1
-gateways = [0]
-write = 1
-read = 1
-";
-
-/// Three data centres, four partitions, and a gateway in each centre.
-const THREE: &str = "centres = 3
-partitions = 4
-gateways = [0, 1, 2]
-write = 2
-read = 2
-";
-
-fn topology_of(alloc: Global, document: &[u8]) -> Result<Topology, Fail> {
-    Ok(Topology::read(alloc, document).ok().ok_or("a topology")?)
+#[test]
+fn actors_and_keys_have_their_places(rt: HostRuntime) -> Result<(), Fail> {
+    let topology = Topology::of(rt.alloc(), 3, 4, &[0, 1, 2], 2, 2)?;
+    for (number, actor) in [
+        (2, Actor::Gate(2)),
+        (3, Actor::Node { centre: 0, part: 0 }),
+        (4, Actor::Node { centre: 0, part: 1 }),
+        (14, Actor::Node { centre: 2, part: 3 }),
+        (15, Actor::Settler(0)),
+    ] {
+        assert!(rt; topology.actor(number) == Some(actor), "{number}");
+    }
+    assert!(rt; topology.actor(18).is_none());
+    let key = Key::from_bytes(b"ab").ok_or("a key")?;
+    assert_eq!(rt; topology.place(key), 3);
+    Ok(())
 }
 
-/// Centres, partitions, write, read, and the centre of each gateway.
-fn shown(alloc: Global, topology: &Topology) -> Result<Vec<u32>, Fail> {
-    let mut numbers = Vec::new(alloc);
-    numbers.push(topology.centres())?;
-    numbers.push(topology.partitions())?;
-    numbers.push(topology.write())?;
-    numbers.push(topology.read_quorum())?;
-    for gate in 0..topology.gateways() {
-        numbers.push(topology.centre_of(gate))?;
-    }
-    Ok(numbers)
+#[test]
+fn copies_equal_their_source(rt: HostRuntime) -> Result<(), Fail> {
+    let topology = Topology::of(rt.alloc(), 2, 4, &[1], 2, 1)?;
+    let copy = topology.copy()?;
+    assert_eq!(rt; (copy.centres(), copy.partitions()), (2, 4));
+    assert_eq!(rt; (copy.write(), copy.read_quorum()), (2, 1));
+    assert_eq!(rt; copy.gateways(), 1);
+    assert_eq!(rt; copy.centre_of(0), 1);
+    let node = Actor::Node { centre: 1, part: 2 };
+    assert!(rt; node.copy()? == node);
+    let place = Place {
+        entry: 7,
+        letter: 2,
+    };
+    assert!(rt; place.copy()? == place);
+    assert!(rt; Mode::One.copy()? == Mode::One);
+    Ok(())
 }

@@ -1,50 +1,16 @@
-//! For each of the 13 kinds of entries a wrong one: an entry of a worked example with one field changed, which the judge refuses
-//! where it allows the entry itself; and a stop after a stop.
-use super::examples::{TOO_EARLY, waiting};
-use super::world::World;
-use ov_base::{Plain, Version};
-use ov_event::{Entry, Kind};
+//! Wrong entries of each kind: an entry of the run with one field changed, which the judge refuses where it allows the entry itself. A
+//! stop, which has no fields, is wrong after a stop (`moments.rt`).
+use super::run::World;
+use ov_base::{Sequence, Value, Version};
+use ov_event::{Kind, Start, Valued};
 use ov_functor::Reply;
 use ov_gossip::{Marks, Vector};
-use ov_topology::Actor;
-use std::process::Abort;
 use std::test::Fail;
 
-/// The kinds of the example's entries: all but `Stopped`.
-const KINDS: [&str; 12] = [
-    "Began",
-    "Stored",
-    "Acked",
-    "Published",
-    "Heard",
-    "Asked",
-    "Answered",
-    "Taken",
-    "Settled",
-    "Resulted",
-    "Replied",
-    "Told",
-];
+/// Numbers of entries of each kind but `Stopped`; the last two begin a snapshot and reply to it.
+const NUMBERS: [usize; 14] = [1, 2, 3, 4, 6, 16, 17, 18, 19, 20, 21, 22, 24, 25];
 
-fn name(kind: &Kind) -> &'static str {
-    match kind {
-        Kind::Began { .. } => "Began",
-        Kind::Stored { .. } => "Stored",
-        Kind::Acked { .. } => "Acked",
-        Kind::Published { .. } => "Published",
-        Kind::Heard { .. } => "Heard",
-        Kind::Asked { .. } => "Asked",
-        Kind::Answered { .. } => "Answered",
-        Kind::Taken { .. } => "Taken",
-        Kind::Settled { .. } => "Settled",
-        Kind::Resulted { .. } => "Resulted",
-        Kind::Replied { .. } => "Replied",
-        Kind::Told { .. } => "Told",
-        Kind::Stopped => "Stopped",
-    }
-}
-
-/// Changes one field: a number is one greater, a list is empty, a mark is higher, a reply is of a later version.
+/// Changes a field: a number is one greater, a list is empty, a mark is higher, a reply is of a later version.
 fn change(kind: &mut Kind) {
     match kind {
         Kind::Began { seq, .. } => *seq = seq.wrapping_add(1),
@@ -63,6 +29,39 @@ fn change(kind: &mut Kind) {
     }
 }
 
+/// Changes another field: the start, a version, a time, a place, a round, a value, or what a reply says.
+fn change_another(kind: &mut Kind) -> Result<(), Fail> {
+    match kind {
+        Kind::Began { start, .. } => change_start(start),
+        Kind::Stored { version, .. } => *version = next(*version),
+        Kind::Acked { version, .. } => *version = next(*version),
+        Kind::Published { time, .. } => *time = time.wrapping_add(1),
+        Kind::Heard { place, .. } => place.entry = place.entry.wrapping_add(1),
+        Kind::Asked { round, .. } => *round = round.wrapping_add(1),
+        Kind::Answered { round, .. } => *round = round.wrapping_add(1),
+        Kind::Taken { round, .. } => *round = round.wrapping_add(1),
+        Kind::Settled { values } => *values = absent(values)?,
+        Kind::Resulted { reply, .. } => *reply = other_reply(reply),
+        Kind::Replied { reply, .. } => delay(reply),
+        Kind::Told { place, .. } => place.entry = place.entry.wrapping_add(1),
+        Kind::Stopped => {}
+    }
+    Ok(())
+}
+
+/// The version of the next number, which is of the same time and of the next gateway.
+fn next(version: Version) -> Version {
+    Version::from_number(version.number().wrapping_add(1)).unwrap_or(version)
+}
+
+/// A draw is of the other gateway's version; a snapshot has a greater floor.
+fn change_start(start: &mut Start) {
+    match start {
+        Start::Draw { version, .. } => *version = next(*version),
+        Start::Look { floor, .. } => *floor = floor.wrapping_add(1),
+    }
+}
+
 /// Raises a mark of the first gateway to the version 1000.0.
 fn raise(vector: &mut Vector) {
     if vector.count() > 0 {
@@ -77,51 +76,66 @@ fn raise(vector: &mut Vector) {
     }
 }
 
-/// The reply `done`, at the next version.
+/// The same values, all absent.
+fn absent(values: &Sequence<Valued>) -> Result<Sequence<Valued>, Fail> {
+    let mut changed = values.empty();
+    for one in values.as_slice() {
+        changed.push(Valued {
+            version: one.version,
+            key: one.key,
+            value: Value::Absent,
+        })?;
+    }
+    Ok(changed)
+}
+
+/// The reply is of the next version, or at the next watermark.
 fn delay(reply: &mut Reply) {
-    if let Reply::Done { version, .. } = reply {
-        let next = Version::from_number(version.number().wrapping_add(1));
-        *version = next.unwrap_or(*version);
+    match reply {
+        Reply::Done { version, .. } => *version = next(*version),
+        Reply::Aborted { version, .. } => *version = next(*version),
+        Reply::Snap { watermark, .. } => *watermark = watermark.wrapping_add(1),
     }
 }
 
-/// The oldest entry of the kind, in front of those before it.
-fn from_oldest<'a>(history: &'a [Entry], kind: &str) -> Option<&'a [Entry]> {
-    let mut entries = history.iter();
-    let place = entries.rposition(|entry| name(&entry.kind) == kind)?;
-    history.get(place..)
-}
-
-/// Checks that the oldest entry of the kind may follow those before it, and may not where it is changed.
-fn check_kind(rt: &impl Abort, world: &World, kind: &str) -> Result<(), Fail> {
-    let history = from_oldest(world.history.as_slice(), kind).ok_or("an entry of the kind")?;
-    let (entry, before) = history.split_first().ok_or("an entry")?;
-    let mut changed = entry.copy()?;
-    change(&mut changed.kind);
-    assert!(rt; world.may(before, entry)?, "{kind}");
-    assert!(rt; !world.may(before, &changed)?, "{kind}");
-    Ok(())
-}
-
-#[test]
-fn a_changed_entry_of_each_kind_is_refused(rt: HostRuntime) -> Result<(), Fail> {
-    let mut world = waiting(rt.alloc())?;
-    world.check_lines(&rt, &TOO_EARLY)?;
-    world.calm()?;
-    for kind in &KINDS {
-        check_kind(&rt, &world, kind)?;
+/// What is done is aborted, and the other way round; a snapshot shows nothing.
+fn other_reply(reply: &Reply) -> Reply {
+    match reply {
+        Reply::Done { version, gets } => Reply::Aborted {
+            version: *version,
+            gets: gets.empty(),
+        },
+        Reply::Aborted { version, gets } => Reply::Done {
+            version: *version,
+            gets: gets.empty(),
+        },
+        Reply::Snap { watermark, shown } => Reply::Snap {
+            watermark: *watermark,
+            shown: shown.empty(),
+        },
     }
-    Ok(())
+}
+
+/// Whether the entry of this number may follow where one field is changed.
+fn may_changed(world: &World, number: usize) -> Result<bool, Fail> {
+    let mut entry = world.entry(number)?;
+    change(&mut entry.kind);
+    world.may_come(number.wrapping_sub(1), &entry)
+}
+
+/// Whether the entry of this number may follow where another field is changed.
+fn may_otherwise(world: &World, number: usize) -> Result<bool, Fail> {
+    let mut entry = world.entry(number)?;
+    change_another(&mut entry.kind)?;
+    world.may_come(number.wrapping_sub(1), &entry)
 }
 
 #[test]
-fn a_stop_after_a_stop_is_refused(rt: HostRuntime) -> Result<(), Fail> {
-    let mut world = waiting(rt.alloc())?;
-    world.check_lines(&rt, &[("stop g1", 1), ("stop g1", 0)])?;
-    let stop = Entry {
-        actor: Actor::Gate(1),
-        kind: Kind::Stopped,
-    };
-    assert!(rt; !world.may(world.history.as_slice(), &stop)?);
+fn two_wrong_entries_of_each_kind_are_refused(rt: HostRuntime) -> Result<(), Fail> {
+    let world = World::run(&rt, rt.alloc())?;
+    for number in &NUMBERS {
+        assert!(rt; !may_changed(&world, *number)?, "{number}");
+        assert!(rt; !may_otherwise(&world, *number)?, "{number}");
+    }
     Ok(())
 }
