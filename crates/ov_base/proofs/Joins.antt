@@ -7,6 +7,7 @@ use Rattle.std.proofs.lemmas.List.{append-nil}
 use Rattle.std.proofs.lemmas.List.Splits.{slice_split-cons_yes, slice_split-cons_no, slice_split_none, slice_split_at}
 use Rattle.std.proofs.lemmas.List.Elements.{All-from_recursion}
 use Rattle.ov_base.specs.Split.{joined, lacks}
+use Rattle.ov_base.proofs.Lists.{all_appended}
 use Rattle.ov_base.proofs.Splits.{lacks_appended}
 
 -- the pieces of a split are never none
@@ -63,6 +64,11 @@ joined_ends y text piece (item ∷ items) =
     ∙ ap (λ (t : _). piece ++ y ∷ t)
     (joined_ends y text (text item) items ∙ sym (append_assoc (text item) (y ∷ []) (flat_map (λ item. text item ++ y ∷ []) items)))
 
+-- pieces, each but the first with y before it, are the pieces joined
+pub joined_flat : {X : Type 0} (y : X) (piece : List X) (pieces : List (List X)) → piece ++ flat_map (λ p. y ∷ p) pieces ≡ joined y (piece ∷ pieces)
+joined_flat y piece [] = append-nil piece
+joined_flat y piece (next ∷ pieces) = ap (λ (t : _). piece ++ y ∷ t) (joined_flat y next pieces)
+
 -- pieces behind pieces
 pub joined_behind : {X : Type 0} (y : X) (piece : List X) (pieces : List (List X)) (next : List X) (others : List (List X))
     → joined y ((piece ∷ pieces) ++ next ∷ others) ≡ joined y (piece ∷ pieces) ++ y ∷ joined y (next ∷ others)
@@ -93,28 +99,29 @@ regrouped y front mid next others =
     ∙ ap (λ (t : _). front ++ t) (sym (append_assoc (mid ++ y ∷ []) next others ∙ append_assoc mid (y ∷ []) (next ++ others)))
 
 -- groups of pieces with the piece z between the groups, joined: z stands behind the first group before each further one
+pub joined_onto_groups : {X Y : Type 0} (y : X) (z : List X) (pieces : Y → List (List X)) → ((item : Y) → HasFirst (pieces item)) → (group : List (List X)) → HasFirst group → (items : List Y)
+    → joined y (joined z (group ∷ map pieces items)) ≡ joined y group ++ flat_map (λ item. (y ∷ z ++ y ∷ []) ++ joined y (pieces item)) items
+joined_onto_groups y z pieces some group first [] = sym (append-nil (joined y group))
+joined_onto_groups y z pieces some group first (next ∷ items) =
+    joined_apart y group (joined z (map pieces (next ∷ items))) z first (joined_first z pieces some next items)
+    ∙ ap (λ (t : _). joined y group ++ y ∷ z ++ y ∷ t) (joined_onto_groups y z pieces some (pieces next) (some next) items)
+    ∙ regrouped y (joined y group) (y ∷ z) (joined y (pieces next)) (flat_map (λ item. (y ∷ z ++ y ∷ []) ++ joined y (pieces item)) items)
+
+-- the same where the first group is one of an item too
 pub joined_groups : {X Y : Type 0} (y : X) (z : List X) (pieces : Y → List (List X)) → ((item : Y) → HasFirst (pieces item)) → (item : Y) (items : List Y)
     → joined y (joined z (map pieces (item ∷ items))) ≡ joined y (pieces item) ++ flat_map (λ item. (y ∷ z ++ y ∷ []) ++ joined y (pieces item)) items
-joined_groups y z pieces some item [] = sym (append-nil (joined y (pieces item)))
-joined_groups y z pieces some item (next ∷ items) =
-    joined_apart y (pieces item) (joined z (map pieces (next ∷ items))) z (some item) (joined_first z pieces some next items)
-    ∙ ap (λ (t : _). joined y (pieces item) ++ y ∷ z ++ y ∷ t) (joined_groups y z pieces some next items)
-    ∙ regrouped y (joined y (pieces item)) (y ∷ z) (joined y (pieces next)) (flat_map (λ item. (y ∷ z ++ y ∷ []) ++ joined y (pieces item)) items)
+joined_groups y z pieces some item items = joined_onto_groups y z pieces some (pieces item) (some item) items
 
 -- pieces without y, of which there is one, joined, are split again
 pub split_again : {X : Type 0} (p : X → Bool) (y : X) → p y ≡ true → (pieces : List (List X)) → HasFirst pieces → AllByRecursion (Lacks p) pieces → slice_split p (joined y pieces) ≡ pieces
 split_again {X} p y here [] some each = let bad : ◌≡◌ {A = List (List X)} [] (some.0 ∷ some.1) = some.2 in absurd cc
 split_again p y here (piece ∷ pieces) some each = split_joined p y here piece pieces each.0 each.1
 
-each_appended : {X : Type 0} (Holds : X → Type 0) (xs ys : List X) → AllByRecursion Holds xs → AllByRecursion Holds ys → AllByRecursion Holds (xs ++ ys)
-each_appended Holds [] ys h k = k
-each_appended Holds (x ∷ xs) ys h k = (h.0, each_appended Holds xs ys h.1 k)
-
 -- what holds of y and of each element of each piece holds of each element of the pieces, joined
 pub each_joined : {X : Type 0} (Holds : X → Type 0) (y : X) → Holds y → (pieces : List (List X)) → AllByRecursion (AllByRecursion Holds) pieces → AllByRecursion Holds (joined y pieces)
 each_joined Holds y here [] h = tt
 each_joined Holds y here (piece ∷ []) h = h.0
-each_joined Holds y here (piece ∷ next ∷ pieces) h = each_appended Holds piece (y ∷ joined y (next ∷ pieces)) h.0 (here, each_joined Holds y here (next ∷ pieces) h.1)
+each_joined Holds y here (piece ∷ next ∷ pieces) h = all_appended Holds piece (y ∷ joined y (next ∷ pieces)) h.0 (here, each_joined Holds y here (next ∷ pieces) h.1)
 
 -- pieces that lack a byte, joined by another, lack it
 pub lacks_joined : (b y : ℕ) → eqb y b ≡ false → (pieces : List (List ℕ)) → AllByRecursion (λ piece. lacks b piece ≡ true) pieces → lacks b (joined y pieces) ≡ true

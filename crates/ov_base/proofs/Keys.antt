@@ -5,7 +5,8 @@ use Rattle.std.proofs.lemmas.List.{drop-replicate, length-replicate, length-appe
 use Rattle.std.proofs.lemmas.Bool.{lt-ltb, ltb-true, le-leb, leb-true, and_parts}
 use Rattle.std.proofs.lemmas.Option.{cond_some}
 use Rattle.ov_base.specs.Split.{lacks}
-use Rattle.ov_base.specs.Key.{IsKey, IsPadded, key_room, key_of, is_key_byte, all_key_bytes}
+use Rattle.ov_base.specs.Lemmas.{key_eq-equiv}
+use Rattle.ov_base.specs.Key.{key_eq, IsKey, IsPadded, key_room, key_of, is_key_byte, all_key_bytes}
 use Rattle.ov_base.proofs.Splits.{passing_lack}
 
 pub padded_new : (new bytes : List ℕ) → new ≡ bytes → 0 < length bytes → length bytes ≤ 32 → all_key_bytes bytes ≡ true
@@ -21,6 +22,10 @@ padded_new new bytes e some short letters =
       letters = rw (take_at new (drop (length bytes) (replicate 32 0)) (length bytes) same_len, e) letters;
       zeros = drop_at new (drop (length bytes) (replicate 32 0)) (length bytes) same_len ∙ tail;
     }
+
+-- a key is the same as itself
+pub key_eq-self : (key : List ℕ) → key_eq key key ≡ true
+key_eq-self key = key_eq-equiv.refl key
 
 -- a key is read as itself
 pub key_again : (key : List ℕ) → IsKey key → key_of key ≡ Some key

@@ -1,3 +1,5 @@
+pub mod Orders
+pub mod Lists
 pub mod Readers
 pub mod Numbers
 pub mod Keys
@@ -7,4 +9,7 @@ pub mod Amounts
 pub mod Values
 pub mod Joins
 pub mod Traverse
+pub mod GroupTexts
+pub mod GroupedWords
 pub mod Printing
+pub mod LineTexts

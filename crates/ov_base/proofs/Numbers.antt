@@ -1,17 +1,19 @@
 -- What std's `parse` says of a text without a sign or a leading zero, in the words of a reader.
-use Rattle.std.proofs.Common.{◌≡◌, ℕ, ◌<◌, ◌^◌, List, length, Option, Some, None, Result, Ok, Err, refl, sym, ap, subst, ◌∙◌, arith, inl, inr, Bool, true, false, IsTrue, ◌↔◌, cond, ltb, ◌&&◌}
+use Rattle.std.proofs.Common.{◌≡◌, ℕ, ◌<◌, ◌^◌, List, length, Option, Some, None, Result, Ok, Err, refl, sym, ap, subst, ◌∙◌, arith, inl, inr, Bool, true, false, IsTrue, ◌↔◌, cond, ltb, leb, ◌&&◌}
 use Rattle.std.specs.Fmt.{decimal}
 use Rattle.std.specs.Str.{IsUtf8}
 use Rattle.std.specs.Result.{result_ok, OkIff}
 use Rattle.std.specs.Str.Parse.{digits_value, AllDigits, ParsesUnsigned}
-use Rattle.std.proofs.lemmas.Bool.{cases_eq, lt-ltb, ltb-true}
+use Rattle.std.proofs.lemmas.Bool.{cases_eq, lt-ltb, ltb-true, le-leb, leb-true, and_parts}
+use Rattle.std.proofs.lemmas.Option.{cond_some}
 use Rattle.std.proofs.lemmas.Slice.Eq.{bytes_eq-Decides}
 use Rattle.std.specs.Str.{bytes_eq}
 use Rattle.std.proofs.lemmas.Str.{IsUtf8-from_ascii}
 use Rattle.std.proofs.lemmas.Str.Parse.{IsNumeralModel, numerals_by_value, tells_digits, parse_plain, digit_at}
 use Rattle.std.proofs.lemmas.Fmt.{digits_decimal, digits_value-decimal, decimal-digits_value, decimal_nonempty, first_decimal, decimal_digit, IsAscii-decimal}
 use Rattle.ov_base.specs.Word.{Reads}
-use Rattle.ov_base.specs.Number.{IsWord64, IsPlain, number_of}
+use Rattle.ov_base.specs.Number.{IsWord64, IsWithin, IsPlain, number_of, number_within}
+use Rattle.ov_base.proofs.Readers.{bind_some}
 
 own : IsNumeralModel (AllDigits 10) (digits_value 10)
 own = numerals_by_value (AllDigits 10) tells_digits
@@ -72,7 +74,22 @@ none_is : {A : Type 0} (bs : List ℕ) (r : Option A) → ((v : A) → r ≡ Som
 none_is bs None h = refl
 none_is bs (Some v) h = absurd (h v refl)
 
--- what a reader answers is what reading gives
+-- what a reader returns is what reading gives
 pub number_is : (bs : List ℕ) (r : Option ℕ) → Reads decimal IsWord64 bs r → r ≡ number_of bs
 number_is bs (Some n) h = sym (ap number_of h.1 ∙ number_again n h.0)
 number_is bs None h = none_is bs (number_of bs) (λ n e. let t = number_takes bs n e in h n t.0 t.1)
+
+-- ---- numbers in a range
+
+-- a number in the range is read as itself
+pub within_again : (low high : ℕ) → high < 2 ^ 64 → (n : ℕ) → IsWithin low high n → number_within low high (decimal n) ≡ Some n
+within_again low high held n h = rw (number_again n (omega (arith, h.1, held)), le-leb low n h.0, le-leb n high h.1) refl
+
+-- a number that is read lies in the range, and its bytes are its digits
+pub within_takes : (low high : ℕ) (bs : List ℕ) (n : ℕ) → number_within low high bs ≡ Some n → IsWithin low high n × (bs ≡ decimal n)
+within_takes low high bs n e =
+    bind_some (number_of bs) _ n e λ m read rest.
+    let q = cond_some (leb low m && leb m high) m n rest in
+    let tests = and_parts (leb low m) (leb m high) q.0 in
+    let spelled = number_takes bs m read in
+    subst (λ (k : ℕ). IsWithin low high k × (bs ≡ decimal k)) q.1 ((leb-true low m tests.0, leb-true m high tests.1), spelled.1)

@@ -1,18 +1,13 @@
 -- Writers: what one writer leaves after another.
 use Rattle.std.proofs.Common.{◌≡◌, ℕ, ◌<◌, List, [], ◌∷◌, ◌++◌, length, get_or, take, drop, ◌+◌, Result, Ok, Err, refl, sym, ap, ◌∙◌, append_assoc}
 use Rattle.std.specs.List.{flat_map}
-use Rattle.std.proofs.lemmas.List.{take-append-drop, drop_more}
+use Rattle.std.proofs.lemmas.List.{append-nil, take-append-drop, drop_more}
 use Rattle.std.proofs.lemmas.Grind.{flat_map-append}
 use Rattle.ov_base.specs.Word.{Printed, AddsFront}
 
--- nothing behind a list leaves it
-pub append_nil : (xs : List ℕ) → xs ++ [] ≡ xs
-append_nil [] = refl
-append_nil (x ∷ xs) = ap (λ (t : _). x ∷ t) (append_nil xs)
-
 -- nothing was written yet
 pub printed_nothing : (old text : List ℕ) → AddsFront old old text
-printed_nothing old text = ([], text, refl, sym (append_nil old))
+printed_nothing old text = ([], text, refl, sym (append-nil old))
 
 -- what stands in front was written whole, and no more
 pub printed_front : (old new front back : List ℕ) → new ≡ old ++ front → AddsFront old new (front ++ back)
@@ -28,7 +23,7 @@ printed_then (Err error) old mid new front back e p = (
   p.3 ∙ ap (λ (t : List ℕ). t ++ p.0) e ∙ append_assoc old front p.0,
 )
 
--- a front of what stands in front was written
+-- a prefix of what stands in front was written
 pub printed_before : (old new front back : List ℕ) → AddsFront old new front → AddsFront old new (front ++ back)
 printed_before old new front back p = (p.0, p.1 ++ back, ap (λ (t : List ℕ). t ++ back) p.2 ∙ append_assoc p.0 p.1 back, p.3)
 

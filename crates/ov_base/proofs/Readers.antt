@@ -1,11 +1,11 @@
--- Readers: steps that may answer nothing, and the clause `Reads` from the two laws of a spelling.
+-- Readers: steps that may give nothing, and the clause `Reads` from the two laws of a spelling.
 use Rattle.std.proofs.Common.{◌≡◌, ℕ, Bool, true, false, cond, List, Option, Some, None, refl, sym, ap, ◌∙◌, inl, inr}
 use Rattle.std.specs.Str.{bytes_eq}
 use Rattle.std.proofs.lemmas.Bool.{cases_Bool}
 use Rattle.std.proofs.lemmas.Slice.Eq.{bytes_eq-Decides}
 use Rattle.ov_base.specs.Word.{◌>>=◌, Reads}
 
--- what follows from the value of a step that answered one
+-- what follows from the value of a step that gave one
 pub bind_some : {A B P : Type 0} (o : Option A) (f : A → Option B) (y : B) → (o >>= f) ≡ Some y → ((x : A) → o ≡ Some x → f x ≡ Some y → P) → P
 bind_some None f y e k = absurd cc
 bind_some (Some x) f y e k = k x refl e

@@ -9,7 +9,8 @@ use Rattle.std.proofs.lemmas.Bool.Decides.{eqb_tells}
 use Rattle.std.proofs.lemmas.List.{take-append-drop, drop_more, drop_all}
 use Rattle.std.proofs.lemmas.Fmt.{digits_decimal}
 use Rattle.std.proofs.lemmas.Str.Parse.{digit_from_value, numerals_by_value, tells_digits}
-use Rattle.ov_base.specs.Split.{cut_at, lacks, onto}
+use Rattle.ov_base.specs.Split.{cut_at, lacks, onto, pair_of}
+use Rattle.ov_base.proofs.Readers.{bind_some}
 
 pub cut_again : (b : ℕ) (xs ys : List ℕ) → lacks b xs ≡ true → cut_at b (xs ++ b ∷ ys) ≡ Some (xs, ys)
 cut_again b [] ys h = elim (eqb_tells b b) [ inl p ↦ rw p.0 refl | inr p ↦ absurd (p.1 refl) ]
@@ -75,3 +76,40 @@ last_apart xs d some =
     ∙ ap (λ (t : List ℕ). take (length xs - 1) xs ++ t)
     (drop_more xs (length xs - 1) d (omega arith)
     ∙ ap (λ (t : List ℕ). get_or xs (length xs - 1) d ∷ t) (drop_all (length xs - 1 + 1) xs (omega arith)))
+
+-- ---- two words with a byte between them
+
+-- What two words that were read are: each fits, and the bytes are their texts with the byte between them.
+pub record Pair {A B C : Type 0} (b : ℕ) (make : A → B → C) (FitsOne : A → Type 0) (FitsOther : B → Type 0) (text_one : A → List ℕ) (text_other : B → List ℕ) (bytes : List ℕ) (v : C) : Type 0 where
+  pub one : A
+  pub other : B
+  pub made : make one other ≡ v
+  pub fits_one : FitsOne one
+  pub fits_other : FitsOther other
+  pub spelled : bytes ≡ text_one one ++ b ∷ text_other other
+
+-- two words that are read are spelled so
+pub pair_takes : {A B C : Type 0} (b : ℕ) (first : List ℕ → Option A) (second : List ℕ → Option B) (make : A → B → C)
+    (FitsOne : A → Type 0) (FitsOther : B → Type 0) (text_one : A → List ℕ) (text_other : B → List ℕ)
+    → ((word : List ℕ) (x : A) → first word ≡ Some x → FitsOne x × (word ≡ text_one x))
+    → ((word : List ℕ) (y : B) → second word ≡ Some y → FitsOther y × (word ≡ text_other y))
+    → (bytes : List ℕ) (v : C) → pair_of b first second make bytes ≡ Some v → Pair b make FitsOne FitsOther text_one text_other bytes v
+pair_takes {A} {B} {C} b first second make FitsOne FitsOther text_one text_other takes_one takes_other bytes v e =
+    bind_some (cut_at b bytes) _ v e λ words cut more.
+    bind_some (first words.0) _ v more λ x read more2.
+    bind_some (second words.1) _ v more2 λ y there last.
+    let p = takes_one words.0 x read in
+    let q = takes_other words.1 y there in
+    record {
+      one = x;
+      other = y;
+      made = cc;
+      fits_one = p.0;
+      fits_other = q.0;
+      spelled = cut_takes b bytes words.0 words.1 cut ∙ rw (p.1, q.1) refl;
+    }
+
+-- two words, of which the first lacks the byte, are read as what they spell
+pub pair_again : {A B C : Type 0} (b : ℕ) (first : List ℕ → Option A) (second : List ℕ → Option B) (make : A → B → C) (one other : List ℕ) (x : A) (y : B)
+    → lacks b one ≡ true → first one ≡ Some x → second other ≡ Some y → pair_of b first second make (one ++ b ∷ other) ≡ Some (make x y)
+pair_again b first second make one other x y free read there = rw (cut_again b one other free, read, there) refl

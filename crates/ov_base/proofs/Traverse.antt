@@ -1,11 +1,12 @@
 -- A loop that reads each of a list, and stops at the first that is nothing.
-use Rattle.std.proofs.Common.{◌≡◌, ℕ, ◌+◌, ◌<◌, Bool, List, [], ◌∷◌, ◌++◌, map, length, get_or, drop, refl, sym, ap, subst, ◌∙◌, Option, Some, None, append_assoc}
+use Rattle.std.proofs.Common.{◌≡◌, ℕ, ◌+◌, ◌<◌, Bool, Bor, List, [], ◌∷◌, ◌++◌, map, length, get_or, drop, refl, sym, ap, subst, ◌∙◌, Option, Some, None, append_assoc, arith}
 use Rattle.std.specs.List.{slice_split, onto_first, AllByRecursion}
 use Rattle.std.proofs.lemmas.Bool.{cases_Bool}
 use Rattle.std.proofs.lemmas.List.{drop_more}
 use Rattle.std.proofs.lemmas.List.Splits.{slice_split-cons_yes, slice_split-cons_no}
 use Rattle.std.proofs.Common.{inl, inr}
 use Rattle.ov_base.specs.Word.{◌>>=◌}
+use Rattle.ov_base.specs.Groups.{words_in}
 use Rattle.ov_base.specs.Split.{all_of, with_front}
 use Rattle.ov_base.proofs.Readers.{bind_some}
 
@@ -20,6 +21,12 @@ front_then front y (Some ys) = ap (λ (t : _). Some t) (sym (append_assoc front 
 pub all_of_next : {A B : Type 0} (f : A → Option B) (xs : List A) (i : ℕ) (d : A) (y : B) (front : List B)
     → i < length xs → f (get_or xs i d) ≡ Some y → with_front front (all_of f (drop i xs)) ≡ with_front (front ++ y ∷ []) (all_of f (drop (i + 1) xs))
 all_of_next f xs i d y front lt e = rw (drop_more xs i d lt, e) (front_then front y (all_of f (drop (i + 1) xs)))
+
+-- the same for words that code keeps
+pub all_of_words_next : {B : Type 0} (f : List ℕ → Option B) (words : List (Bor (List ℕ))) (i : ℕ) (d : Bor (List ℕ)) (y : B) (front : List B)
+    → i < length words → f ((get_or words i d).now) ≡ Some y
+    → with_front front (all_of f (words_in (drop i words))) ≡ with_front (front ++ y ∷ []) (all_of f (words_in (drop (i + 1) words)))
+all_of_words_next f words i d y front lt e = rw (drop_more words i d lt, e) (front_then front y (all_of f (words_in (drop (i + 1) words))))
 
 pub all_of_stop : {A B : Type 0} (f : A → Option B) (xs : List A) (i : ℕ) (d : A) (front : List B)
     → i < length xs → f (get_or xs i d) ≡ None → with_front front (all_of f (drop i xs)) ≡ None
@@ -67,3 +74,14 @@ pub all_of_texts : {A B : Type 0} (Holds : A → Type 0) (Fits : B → Type 0) (
     → ((y : B) → Fits y → Holds (text y)) → (ys : List B) → AllByRecursion Fits ys → AllByRecursion Holds (map text ys)
 all_of_texts Holds Fits text each [] h = tt
 all_of_texts Holds Fits text each (y ∷ ys) h = (each y h.0, all_of_texts Holds Fits text each ys h.1)
+
+-- there are as many as were read
+pub all_of_length : {A B : Type 0} (f : A → Option B) (xs : List A) (ys : List B) → all_of f xs ≡ Some ys → length ys ≡ length xs
+all_of_length {A} {B} f [] ys e = let h : ◌≡◌ {A = List B} [] ys = cc in ap length (sym h)
+all_of_length {A} {B} f (x ∷ xs) ys e =
+    bind_some (f x) _ ys e λ y here rest.
+    bind_some (all_of f xs) _ ys rest λ zs others last.
+    let h : ◌≡◌ {A = List B} (y ∷ zs) ys = cc in
+    let same = all_of_length f xs zs others in
+    let count : length ys ≡ length (y ∷ zs) = ap length (sym h) in
+    omega (arith, same, count)

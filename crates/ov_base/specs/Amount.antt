@@ -1,12 +1,8 @@
 -- Amounts, seen as whole numbers, and their words.
-use Rattle.std.specs.Prelude.{◌≡◌, ℕ, ℤ, pos, negsuc, ◌+ℤ◌, ◌-ℤ◌, int_lt, int_le, ◌<◌, ◌≤◌, ◌&&◌, Bool, true, false, ◌⊎◌, nat_lt, nat_le, ◌==◌, List, [], ◌∷◌, Option, Some, None, if◌then◌else◌}
-use Rattle.std.specs.Cmp.{IsEquivalence, int_eq_equiv}
+use Rattle.std.specs.Prelude.{ℕ, ℤ, pos, negsuc, ◌+ℤ◌, ◌-ℤ◌, int_lt, int_le, ◌<◌, ◌≤◌, ◌&&◌, Bool, nat_lt, nat_le, ◌==◌, List, [], ◌∷◌, Option, Some, None, if◌then◌else◌}
 use Rattle.std.specs.Fmt.{signed_decimal}
 use Rattle.std.specs.Ordering.{int_eq}
-use Rattle.std.proofs.Common.{arith}
-use Rattle.std.proofs.lemmas.Grind.{common_steps}
 use lib.IntN.{neg_ℤ}
-use Rattle.ov_base.specs.Exact.{fails_or_same}
 use Rattle.ov_base.specs.Word.{◌>>=◌}
 use Rattle.ov_base.specs.Number.{number_of}
 
@@ -61,14 +57,3 @@ amount_of (b ∷ bytes) = if b == 45 then (number_of bytes >>= negative) else (n
 -- whether two amounts are the same
 unfoldable pub amount_eq : ℤ → ℤ → Bool
 amount_eq x y = int_eq x y
-
-pub amount_eq-equiv : IsEquivalence amount_eq
-unfolding amount_eq
-amount_eq-equiv = int_eq_equiv
-
-pub amount_eq-exact : (x y : ℤ) → amount_eq x y ≡ true → x ≡ y
-unfolding amount_eq
-amount_eq-exact x y h = grind (arith, common_steps)
-
-pub amount_eq-cases : (x y : ℤ) → (amount_eq x y ≡ false) ⊎ (x ≡ y)
-amount_eq-cases x y = fails_or_same (amount_eq x y) (amount_eq-exact x y)

@@ -2,8 +2,10 @@ pub mod Exact
 pub mod Word
 pub mod Number
 pub mod Split
+pub mod Groups
+pub mod Lines
 pub mod Key
 pub mod Amount
 pub mod Version
-pub mod Tests
 pub mod Value
+pub mod Lemmas

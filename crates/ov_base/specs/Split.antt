@@ -23,10 +23,18 @@ joined y [] = []
 joined y (piece ∷ []) = piece
 joined y (piece ∷ next ∷ pieces) = piece ++ y ∷ joined y (next ∷ pieces)
 
--- what f answers at each of a list, or nothing where it answers nothing at one
+-- what f gives at each of a list, or nothing where it gives nothing at one
 abbrev pub all_of : {A B : Type 0} → (A → Option B) → List A → Option (List B)
 all_of f [] = Some []
 all_of f (x ∷ xs) = f x >>= λ y. all_of f xs >>= λ ys. Some (y ∷ ys)
+
+-- reading two words with the byte b between them, of which `first` reads the one and `second` the other
+abbrev pub pair_of : {A B C : Type 0} → ℕ → (List ℕ → Option A) → (List ℕ → Option B) → (A → B → C) → List ℕ → Option C
+pair_of b first second make text = do
+  words ← cut_at b text
+  x ← first words.0
+  y ← second words.1
+  Some (make x y)
 
 -- the values so far, and those of the rest
 abbrev pub with_front : {B : Type 0} → List B → Option (List B) → Option (List B)

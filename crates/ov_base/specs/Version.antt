@@ -1,20 +1,27 @@
 -- Versions, seen as their numbers, and their words. Marks and watermarks are such numbers and are written in the same way.
-use Rattle.std.proofs.lemmas.Nat.{div-mul-add, mod-mul-add}
-use Rattle.std.specs.Prelude.{◌≡◌, ℕ, ◌+◌, ◌*◌, ◌/◌, ◌%◌, ◌<◌, ◌^◌, ◌&&◌, nat_lt, List, ◌∷◌, ◌++◌, Option, Some, None, if◌then◌else◌}
+use Rattle.std.specs.Prelude.{ℕ, ◌+◌, ◌*◌, ◌/◌, ◌%◌, ◌<◌, ◌^◌, ◌&&◌, nat_lt, List, ◌∷◌, ◌++◌, Option, Some, None, if◌then◌else◌}
 use Rattle.std.specs.Fmt.{decimal}
 use Rattle.ov_base.specs.Word.{◌>>=◌}
 use Rattle.ov_base.specs.Number.{number_of}
 use Rattle.ov_base.specs.Split.{cut_at}
 
+-- the times of versions are below this number
+abbrev pub time_limit : ℕ
+time_limit = 2 ^ 47
+
+-- the gates of versions are below this number
+abbrev pub gate_limit : ℕ
+gate_limit = 65536
+
 -- the number of a version
 abbrev pub number : ℕ → ℕ → ℕ
-number time gate = time * 65536 + gate
+number time gate = time * gate_limit + gate
 
 abbrev pub time_of : ℕ → ℕ
-time_of n = n / 65536
+time_of n = n / gate_limit
 
 abbrev pub gate_of : ℕ → ℕ
-gate_of n = n % 65536
+gate_of n = n % gate_limit
 
 -- the numbers of versions in form
 abbrev pub IsVersion : ℕ → Type 0
@@ -30,15 +37,9 @@ version_of bytes = do
   parts ← cut_at 46 bytes
   time ← number_of parts.0
   gate ← number_of parts.1
-  if nat_lt time (2 ^ 47) && nat_lt gate 65536 then Some (number time gate) else None
+  if nat_lt time time_limit && nat_lt gate gate_limit then Some (number time gate) else None
 
 -- The two fields of a version are in their ranges.
 pub record IsInForm (time gate : ℕ) : Type 0 where
-  pub early : time < 2 ^ 47
-  pub small : gate < 65536
-
-pub time_back : (time gate : ℕ) → IsInForm time gate → time_of (number time gate) ≡ time
-time_back time gate h = div-mul-add time 65536 gate h.small
-
-pub gate_back : (time gate : ℕ) → IsInForm time gate → gate_of (number time gate) ≡ gate
-gate_back time gate h = mod-mul-add time 65536 gate h.small
+  pub early : time < time_limit
+  pub small : gate < gate_limit

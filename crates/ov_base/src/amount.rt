@@ -2,7 +2,8 @@
 ghost use Rattle.std.specs.Prelude.{◌≡◌, ◌++◌, OnOk, OnErr, ◌↔◌, IsSome, IfSome};
 ghost use Rattle.std.specs.Cmp.{partial_equiv_from_equiv};
 ghost use Rattle.ov_base.specs.Word.{Reads};
-ghost use Rattle.ov_base.specs.Amount.{IsAmount, bounded, sum_of, difference_of, least_of, greatest_of, fits_in, amount_text, amount_of, amount_eq, amount_eq-equiv, amount_eq-exact};
+ghost use Rattle.ov_base.specs.Amount.{IsAmount, bounded, sum_of, difference_of, least_of, greatest_of, fits_in, amount_text, amount_of, amount_eq};
+ghost use Rattle.ov_base.specs.Lemmas.{amount_eq-equiv, amount_eq-exact};
 
 use crate::memory::Memory;
 use crate::number::parse_number;

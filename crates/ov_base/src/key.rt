@@ -1,10 +1,13 @@
 //! Keys: the names of values.
 ghost use Rattle.std.specs.Prelude.{◌≡◌, ◌<◌, ◌≤◌, ◌++◌, length, IsTrue, ◌↔◌, refl, Some};
+ghost use Rattle.std.specs.List.{list_any};
 ghost use Rattle.std.specs.Ordering.{nat_cmp};
 ghost use Rattle.std.specs.Cmp.{partial_equiv_from_equiv};
 ghost use Rattle.std.specs.Cmp.Lexicographic.{slice_cmp, nat_list_cmp_total};
 ghost use Rattle.ov_base.specs.Word.{Reads, itself};
-ghost use Rattle.ov_base.specs.Key.{IsKey, all_key_bytes, is_key_byte, key_of, key_eq, key_eq-equiv, key_eq-order, key_eq-ties, key_eq-exact};
+ghost use Rattle.ov_base.specs.Key as spec;
+ghost use Rattle.ov_base.specs.Key.{IsKey, all_key_bytes, is_key_byte, key_of, key_eq};
+ghost use Rattle.ov_base.specs.Lemmas.{key_eq-equiv, key_eq-order, key_eq-ties, key_eq-exact};
 
 use crate::memory::Memory;
 use crate::plain::Plain;
@@ -24,7 +27,8 @@ pub struct Key {
 
 impl Model for Key {
     ghost use Rattle.std.specs.Prelude.{ℕ, List, take, length, ◌-◌, ◌++◌, replicate};
-    ghost use Rattle.ov_base.specs.Key.{key_room, IsPadded, padded_cells, padded_len};
+    ghost use Rattle.ov_base.specs.Key.{key_room, IsPadded};
+    ghost use Rattle.ov_base.specs.Lemmas.{padded_cells, padded_len};
 
     ghost Value = { List ℕ };
 
@@ -42,7 +46,7 @@ impl Model for Key {
 
 impl Key {
     /// The key of these bytes. None exactly where they are no key: none or more than 32, or one that is no
-    /// letter, digit or `_`. Takes no memory.
+    /// letter, digit or `_`. Does not allocate.
     pub fn from_bytes(bytes: &[u8]) -> Option<Key>
         ensures reads { Reads itself IsKey bytes.now result }
         ensures exact { result ≡ key_of bytes.now }
@@ -65,6 +69,26 @@ impl Key {
     {
         &self.cells[..self.len as usize]
     }
+}
+
+/// Whether a key stands twice. Does not allocate.
+pub fn repeats(keys: &[Key]) -> bool
+    ensures { result ≡ spec.repeats keys.now }
+{
+    let mut rest = keys;
+    while let [first, others @ ..] = rest {
+        if contains(others, first) {
+            return true;
+        }
+        rest = others;
+    }
+    false
+}
+
+fn contains(keys: &[Key], key: &Key) -> bool
+    ensures { result ≡ list_any (key_eq key.now) keys.now }
+{
+    keys.iter().any(|other| key == other)
 }
 
 fn has_key_bytes(bytes: &[u8]) -> bool

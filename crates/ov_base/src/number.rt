@@ -1,7 +1,7 @@
 //! Whole numbers as words: decimal digits, without a sign and without a leading zero.
 ghost use Rattle.std.specs.Prelude.{◌≡◌, ◌++◌, decimal, OnOk, OnErr, IsTrue, ◌↔◌};
 ghost use Rattle.ov_base.specs.Word.{Reads};
-ghost use Rattle.ov_base.specs.Number.{IsWord64, IsPlain, number_of};
+ghost use Rattle.ov_base.specs.Number.{IsWord64, IsWithin, IsPlain, number_of, number_within};
 
 use crate::memory::Memory;
 use std::alloc::Global;
@@ -34,6 +34,26 @@ fn is_plain(text: &[u8]) -> bool
         [] => false,
         [b'0'] => true,
         [first, ..] => *first != b'0' && *first != b'+',
+    }
+}
+
+/// The number that the bytes spell, where it lies from the one number to the other. None exactly where they
+/// spell no such number.
+pub fn parse_number_within(low: u64, high: u64, text: &[u8]) -> Option<u64>
+    ensures exact { result ≡ number_within low high text.now }
+    ensures reads { Reads decimal (IsWithin low high) text.now result }
+{
+    within_read(low, high, text)
+}
+
+fn within_read(low: u64, high: u64, text: &[u8]) -> Option<u64>
+    ensures { result ≡ number_within low high text.now }
+{
+    let number = parse_number(text)?;
+    if low <= number && number <= high {
+        Some(number)
+    } else {
+        None
     }
 }
 

@@ -5,7 +5,7 @@ use crate::memory::Memory;
 
 /// Data whose `==` is equality of what contracts see, and that can be copied.
 pub trait Plain: Eq {
-    /// A copy, which equals its source. Only want of memory is an error.
+    /// A copy, which equals its source. The only error is out of memory.
     fn copy(&self) -> Result<Self, Memory>
         ensures { IfOk result (λ copied. copied ≡ self.now) };
 

@@ -1,6 +1,7 @@
 //! A `Vec` that contracts see as a list, for the fields of plain data.
 ghost use Rattle.std.specs.Prelude.{◌≡◌, [], ◌∷◌, ◌++◌, ◌==◌, length, OnOk, OnErr};
-ghost use Rattle.ov_base.specs.Exact.{lists_same, lists_same-per, lists_same-equiv, lists_same-exact};
+ghost use Rattle.ov_base.specs.Exact.{lists_same};
+ghost use Rattle.ov_base.specs.Lemmas.{lists_same-per, lists_same-equiv, lists_same-exact};
 
 use crate::memory::Memory;
 use crate::plain::Plain;
@@ -25,7 +26,7 @@ impl<T> Model for Sequence<T> {
 }
 
 impl<T> Sequence<T> {
-    /// The empty list. Takes no memory.
+    /// The empty list. Does not allocate.
     pub fn new(alloc: Global) -> Sequence<T>
         ensures { result ≡ [] }
     {
@@ -34,7 +35,7 @@ impl<T> Sequence<T> {
         }
     }
 
-    /// An empty list of other items, over the same allocator. Takes no memory.
+    /// An empty list of other items, over the same allocator. Does not allocate.
     pub fn empty<U>(&self) -> Sequence<U>
         ensures { result ≡ [] }
     {
@@ -43,14 +44,14 @@ impl<T> Sequence<T> {
         }
     }
 
-    /// The list of these items. Takes no memory.
+    /// The list of these items. Does not allocate.
     pub fn from_vec(items: Vec<T>) -> Sequence<T>
         ensures { result ≡ items.items }
     {
         Sequence { items }
     }
 
-    /// The items, as a `Vec` again. Takes no memory.
+    /// The items, as a `Vec` again. Does not allocate.
     pub fn into_vec(self) -> Vec<T>
         ensures { result.items ≡ self }
     {

@@ -8,7 +8,7 @@ use crate::memory::Memory;
 use std::alloc::{AllocError, Global};
 
 /// What stands before the first such byte, and what stands behind it; None exactly where the byte does
-/// not occur. Takes no memory.
+/// not occur. Does not allocate.
 pub fn split_at_byte(text: &[u8], byte: u8) -> Option<(&[u8], &[u8])>
     ensures { option_map (λ p. (p.0.now, p.1.now)) result ≡ cut_at byte text.now }
 {

@@ -1,6 +1,6 @@
 //! The value of a key.
 ghost use Rattle.std.specs.Prelude.{◌≡◌, ◌++◌, OnOk, OnErr};
-ghost use Rattle.ov_base.specs.Tests.{exact_tests};
+ghost use Rattle.ov_base.specs.Lemmas.{exact_tests};
 ghost use Rattle.ov_base.specs.Value.{IsValue, or_zero, value_text, value_of};
 ghost use Rattle.ov_base.specs.Word.{Reads};
 
@@ -29,8 +29,8 @@ impl Value {
         }
     }
 
-    /// The value that the bytes spell: `absent`, or an amount. None exactly where they spell none. Takes no
-    /// memory.
+    /// The value that the bytes spell: `absent`, or an amount. None exactly where they spell none. Does
+    /// not allocate.
     pub fn parse(text: &[u8]) -> Option<Value>
         ensures exact { result ≡ value_of text.now }
         ensures reads { Reads value_text IsValue text.now result }

@@ -1,9 +1,10 @@
 //! Versions: when and at which gateway a transaction was begun.
-ghost use Rattle.std.specs.Prelude.{◌≡◌, ◌<◌, ◌^◌, ◌++◌, ◌↔◌, IsSome, IfSome, OnOk, OnErr, Some, refl};
+ghost use Rattle.std.specs.Prelude.{◌≡◌, ◌<◌, ◌++◌, ◌↔◌, IsSome, IfSome, OnOk, OnErr, Some, refl};
 ghost use Rattle.std.specs.Ordering.{nat_cmp};
 ghost use Rattle.std.specs.Cmp.{partial_equiv_from_equiv, nat_cmp_total};
-ghost use Rattle.ov_base.specs.Number.{number_eq, number_eq-equiv, number_eq-order, number_eq-ties, number_eq-exact};
-ghost use Rattle.ov_base.specs.Version.{number, time_of, gate_of, version_text, version_of, IsVersion};
+ghost use Rattle.ov_base.specs.Lemmas.{number_eq-equiv, number_eq-order, number_eq-ties, number_eq-exact};
+ghost use Rattle.ov_base.specs.Number.{number_eq};
+ghost use Rattle.ov_base.specs.Version.{number, time_of, gate_of, time_limit, gate_limit, version_text, version_of, IsVersion};
 ghost use Rattle.ov_base.specs.Word.{Reads};
 
 use crate::memory::Memory;
@@ -13,6 +14,12 @@ use crate::split::split_at_byte;
 use std::alloc::Global;
 use std::cmp::Ordering;
 use std::marker::Model;
+
+/// The times of versions are below this number.
+pub const TIME_LIMIT: u64 = 1 << 47;
+
+/// The gates of versions are below this number.
+pub const GATE_LIMIT: u64 = 65_536;
 
 /// When a transaction was begun, below `2^47`, and at which gateway, up to 65535. Contracts see its number,
 /// `time * 65536 + gate`, and versions are ordered by it (docs/STORE.md, Versions).
@@ -24,7 +31,8 @@ pub struct Version {
 
 impl Model for Version {
     ghost use Rattle.std.specs.Prelude.{ℕ};
-    ghost use Rattle.ov_base.specs.Version.{number, time_of, gate_of, IsInForm, time_back, gate_back};
+    ghost use Rattle.ov_base.specs.Lemmas.{time_back, gate_back};
+    ghost use Rattle.ov_base.specs.Version.{number, time_of, gate_of, IsInForm};
 
     ghost Value = { ℕ };
 
@@ -43,10 +51,10 @@ impl Model for Version {
 impl Version {
     /// The version of this time and gate. None exactly where a bound fails.
     pub fn new(time: u64, gate: u32) -> Option<Version>
-        ensures made { IsSome result ↔ ((time < 2 ^ 47) × (gate < 2 ^ 16)) }
+        ensures made { IsSome result ↔ ((time < time_limit) × (gate < gate_limit)) }
         ensures value { IfSome result (λ v. v ≡ number time gate) }
     {
-        if time < (1 << 47) && gate < (1 << 16) {
+        if time < TIME_LIMIT && u64::from(gate) < GATE_LIMIT {
             Some(Version { time, gate })
         } else {
             None
@@ -60,8 +68,8 @@ impl Version {
     {
         if number < (1 << 63) {
             Some(Version {
-                time: number / 65536,
-                gate: (number % 65536) as u32,
+                time: number / GATE_LIMIT,
+                gate: (number % GATE_LIMIT) as u32,
             })
         } else {
             None
@@ -73,7 +81,7 @@ impl Version {
         ensures value { result ≡ self }
         ensures form { IsVersion self }
     {
-        self.time * 65536 + u64::from(self.gate)
+        self.time * GATE_LIMIT + u64::from(self.gate)
     }
 
     /// Its time.
@@ -90,7 +98,7 @@ impl Version {
         self.gate
     }
 
-    /// The version that the bytes spell, as `TIME.GATE`. None exactly where they spell none. Takes no memory.
+    /// The version that the bytes spell, as `TIME.GATE`. None exactly where they spell none. Does not allocate.
     pub fn parse(text: &[u8]) -> Option<Version>
         ensures exact { result ≡ version_of text.now }
         ensures reads { Reads version_text IsVersion text.now result }
@@ -113,7 +121,7 @@ pub fn print_mark(alloc: Global, mark: u64, text: &mut Vec<u8>) -> Result<(), Me
     ensures ok { OnOk result (text.new.items ≡ text.old.items ++ version_text mark) }
     ensures err { OnErr result (text.new.items ≡ text.old.items) }
 {
-    let (time, gate) = (mark / 65536, mark % 65536);
+    let (time, gate) = (mark / GATE_LIMIT, mark % GATE_LIMIT);
     let word = format!(in alloc; "{time}.{gate}")?;
     text.extend_from_slice(word.as_bytes())?;
     Ok(())
@@ -126,7 +134,7 @@ fn version_read(text: &[u8]) -> Option<Version>
     let (time, gate) = split_at_byte(text, b'.')?;
     let time = parse_number(time)?;
     let gate = parse_number(gate)?;
-    if time < (1 << 47) && gate < (1 << 16) {
+    if time < TIME_LIMIT && gate < GATE_LIMIT {
         Some(Version {
             time,
             gate: gate as u32,

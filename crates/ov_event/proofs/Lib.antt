@@ -1,2 +1,4 @@
 pub mod Touched
 pub mod Numbered
+pub mod ItemWords
+pub mod ItemLoops

@@ -1,19 +1,11 @@
 -- The partitions that a transaction touches: that of a place, where they are gathered upwards.
-use Rattle.std.proofs.Common.{◌≡◌, ℕ, zero, suc, ◌<◌, true, List, [], ◌∷◌, ◌++◌, length, Some, refl, subst, sym, Bool, inl, inr, arith}
+use Rattle.std.proofs.Common.{◌≡◌, ℕ, zero, suc, ◌<◌, true, List, [], ◌∷◌, ◌++◌, length, Some, subst, sym, Bool, inl, inr, arith}
 use Rattle.std.specs.Prelude.{slice_get, if◌then◌else◌}
 use Rattle.std.proofs.lemmas.Bool.Decides.{eqb_tells}
+use Rattle.ov_base.proofs.Lists.{get_front, get_next}
 use Rattle.ov_functor.specs.declared.part.Part.{Part}
 use Rattle.ov_topology.specs.Shape.{Shape}
 use Rattle.ov_event.specs.Letters.{touches, touched_below, touched}
-
-get_front : {X : Type 0} (xs ys : List X) (i : ℕ) (x : X) → slice_get xs i ≡ Some x → slice_get (xs ++ ys) i ≡ Some x
-get_front [] ys i x h = cc
-get_front (y ∷ xs) ys zero x h = h
-get_front (y ∷ xs) ys (suc i) x h = get_front xs ys i x h
-
-get_next : {X : Type 0} (xs : List X) (x : X) → slice_get (xs ++ x ∷ []) (length xs) ≡ Some x
-get_next [] x = refl
-get_next (y ∷ xs) x = get_next xs x
 
 up_here : (t : Shape) (parts : List Part) (part : ℕ) → touches t parts part ≡ true
     → slice_get (touched_below t parts (suc part)) (length (touched_below t parts part)) ≡ Some part

@@ -1,6 +1,6 @@
 //! Entries of a history.
-ghost use Rattle.ov_base.specs.Tests.{exact_tests};
-ghost use Rattle.ov_event.specs.KindTests.{kind-cases};
+ghost use Rattle.ov_base.specs.Lemmas.{exact_tests};
+ghost use Rattle.ov_event.specs.Lemmas.{kind-cases};
 
 use crate::kind::Kind;
 use ov_base::{Memory, Plain};

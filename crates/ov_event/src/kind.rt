@@ -1,13 +1,11 @@
 //! What an entry says.
 ghost use Rattle.std.specs.Prelude.{◌≡◌, true, IfOk};
-ghost use Rattle.ov_base.specs.Tests.{exact_tests};
-ghost use Rattle.ov_event.specs.ItemTests.{items-cases};
+ghost use Rattle.ov_base.specs.Lemmas.{exact_tests};
+ghost use Rattle.ov_functor.specs.Lemmas.Functors.{transaction-cases};
+ghost use Rattle.ov_functor.specs.Lemmas.Items.{items-cases, valueds-cases, showns-cases};
+ghost use Rattle.ov_functor.specs.Lemmas.Parts.{parts-cases};
 ghost use Rattle.ov_event.specs.Makers.{of_node, of_settler};
-ghost use Rattle.ov_event.specs.ValuedTests.{valueds-cases};
-ghost use Rattle.ov_functor.specs.CommandTests.{transaction-cases};
-ghost use Rattle.ov_functor.specs.PartTests.{parts-cases};
-ghost use Rattle.ov_functor.specs.ShownTests.{showns-cases};
-ghost use Rattle.ov_gossip.specs.VectorTests.{vector_eq-cases};
+ghost use Rattle.ov_gossip.specs.Lemmas.{vector_eq-cases};
 
 use crate::start::Start;
 use ov_base::{Memory, Plain, Sequence, Version};

@@ -12,7 +12,7 @@ use ov_topology::{Actor, Topology};
 use std::alloc::Global;
 
 /// The letter of this number of an entry, from 1 (docs/STORE.md, Letters). None exactly where the entry has no letter of
-/// that number; only want of memory is an error.
+/// that number; the only error is out of memory.
 pub fn letter_of(
     alloc: Global,
     topology: &Topology,
@@ -36,7 +36,7 @@ pub fn letter_of(
 }
 
 /// How many letters an entry has, at most 9. Condition, here and below: the entry's actor is in the topology, and of
-/// the sort that its kind wants. Takes no memory.
+/// the sort that its kind wants. Does not allocate.
 pub fn letter_count(topology: &Topology, entry: &Entry) -> u32
     requires { IsOf topology.now entry.now }
     ensures count { result ≡ length (letters_of topology.now entry.now) }
@@ -45,7 +45,7 @@ pub fn letter_count(topology: &Topology, entry: &Entry) -> u32
     write_count(topology, entry) + last_count(entry)
 }
 
-/// Whether the letter of this number is addressed to the actor. Takes no memory.
+/// Whether the letter of this number is addressed to the actor. Does not allocate.
 pub fn addressed(topology: &Topology, entry: &Entry, number: u32, actor: Actor) -> bool
     requires { IsOf topology.now entry.now }
     ensures { result ≡ is_addressed topology.now entry.now number actor }

@@ -8,6 +8,7 @@
 
 mod addressees;
 mod entry;
+mod item_text;
 mod kind;
 mod letter;
 mod letters;
@@ -18,6 +19,7 @@ mod tests;
 mod writes;
 
 pub use entry::Entry;
+pub use item_text::{has_text, items_in_groups, parse_items, print_items};
 pub use kind::Kind;
 pub use letter::Letter;
 pub use letters::{addressed, letter_count, letter_of};

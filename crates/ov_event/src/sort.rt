@@ -7,7 +7,7 @@ use crate::kind::Kind;
 use ov_topology::{Actor, Topology};
 
 /// Whether the topology has the entry's actor, and the actor is of the sort that the entry's kind wants (docs/STORE.md,
-/// Entries). Takes no memory.
+/// Entries). Does not allocate.
 pub fn is_of(topology: &Topology, entry: &Entry) -> bool
     ensures { IsTrue result ↔ IsOf topology.now entry.now }
 {

@@ -1,6 +1,6 @@
 //! How a command begins.
-ghost use Rattle.ov_base.specs.Tests.{exact_tests};
-ghost use Rattle.ov_functor.specs.CommandTests.{transaction-cases};
+ghost use Rattle.ov_base.specs.Lemmas.{exact_tests};
+ghost use Rattle.ov_functor.specs.Lemmas.Functors.{transaction-cases};
 
 use ov_base::{Key, Memory, Plain, Sequence, Version};
 use ov_functor::Transaction;

@@ -1,4 +1,5 @@
 pub mod Wholes
 pub mod Lawful
+pub mod AllKinds
 pub mod Replies
 pub mod Rounds

@@ -1,7 +1,6 @@
 -- A lawful history has no more replies than the sessions have commands: each session is replied at most as often as it has commands.
 use Rattle.std.proofs.Common.{◌≡◌, ◌==◌, ℕ, zero, suc, ◌+◌, ◌≤◌, ◌<◌, Bool, true, false, Option, Some, List, [], ◌∷◌, ◌++◌, length, refl, sym, ap, subst, ◌∙◌, arith}
 use Rattle.std.specs.Prelude.{if◌then◌else◌, slice_get}
-use Rattle.std.proofs.lemmas.Grind.{common_steps}
 use Rattle.std.proofs.lemmas.Bool.{eqb-true, eqb-false, eq-eqb}
 use Rattle.std.proofs.lemmas.Option.{slice_get_within}
 use Rattle.ov_topology.specs.declared.actor.Actor.{Actor}
@@ -19,6 +18,7 @@ use Rattle.ov_history.specs.Past.{History, tally}
 use Rattle.ov_history.specs.Sessions.{events_in, events_of}
 use Rattle.ov_history.specs.May.{Setting, MayStart, MayReply, GateGuard, NodeGuard, SettlerGuard, Guard, Lawful}
 use Rattle.ov_follow.specs.Calm.{count, commands, replies}
+use Rattle.ov_history.proofs.Sessions.{of_itself}
 
 -- whether an entry replies to a command of the session
 abbrev replies_in : ℕ → Kind → Bool
@@ -43,10 +43,6 @@ plan_once : (plans : List SessionPlan) (s : ℕ) (plan other : SessionPlan) → 
 plan_once plans s plan other one two =
     let both : ◌≡◌ {A = Option SessionPlan} (Some plan) (Some other) = sym one ∙ two in
     cc
-
--- the number of a session counts for the session itself
-of_itself : (s n : ℕ) → of_session s s n ≡ n
-of_itself s n = grind (arith, common_steps)
 
 -- after its next command began
 began_within : (past : List Event) (s c counted : ℕ) (plan : SessionPlan) → IsWithin past s counted plan → c ≡ begun s past + 1 → begun s past < length plan.planned

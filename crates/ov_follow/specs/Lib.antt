@@ -6,3 +6,4 @@ pub mod Whole
 pub mod First
 pub mod Worlds
 pub mod Schedules
+pub mod Kinds

@@ -143,6 +143,10 @@ waiting =
 abbrev pub too_early : List Step
 too_early = Begin (codes "a") 100 ∷ Begin (codes "b") 0 ∷ Take (Node 4 7) (letter 9 9) ∷ []
 
+-- all is replied, and then the settler stops
+abbrev pub settler_stops : List Step
+settler_stops = Stop (Settler 0) ∷ []
+
 -- ---- stopped actors
 
 -- a of g0: put x 7; g1 has no session

@@ -13,6 +13,7 @@ ghost use Rattle.ov_event.specs.declared.entry.Entry as entries;
 ghost use Rattle.ov_event.specs.declared.kind.Kind.TheVariants.{Began, Stored, Published, Asked, Answered, Taken, Settled};
 ghost use Rattle.ov_event.specs.declared.start.Start.TheVariants.{Draw};
 ghost use Rattle.ov_history.specs.Past.{at};
+ghost use Rattle.ov_history.specs.May.{Lawful};
 ghost use Rattle.ov_history.specs.Settlers.{harvest, backwards};
 ghost use Rattle.ov_history.specs.Serial.{InWindow};
 ghost use Rattle.ov_follow.specs.Lines.{drive};
@@ -20,8 +21,9 @@ ghost use Rattle.ov_follow.specs.Calm.{calm};
 ghost use Rattle.ov_follow.specs.Expected.{IsExpected};
 ghost use Rattle.ov_follow.specs.Whole.{IsWhole};
 ghost use Rattle.ov_follow.specs.First.{setting, journal};
+ghost use Rattle.ov_follow.specs.Kinds.{has_all_kinds};
 ghost use Rattle.ov_follow.specs.Worlds.{letter, triple, with, minus, numbers, begins_at, told, to, three_centres, two_gateways};
-ghost use Rattle.ov_follow.specs.Schedules.{short_move, put_by_one, heard_one, heard_both, put_in_three, repeated, gathered, settled_by_quorum, settled_by_one, too_few, replaced, item_x, no_command, late, waiting, too_early, put_beside_none, transfers, two_snaps, put_and_snap, unheard, one_put, early_mark, gateway_stops, node_stops, asks_and_stops, put_x7, put_x5, put_a3, move_a_b2, get_beside_add, whole_move, full_key, empty_keys, two_puts, greatest_clock, put_beside_snap, heard_not_settled, replied_again};
+ghost use Rattle.ov_follow.specs.Schedules.{short_move, put_by_one, heard_one, heard_both, put_in_three, repeated, gathered, settled_by_quorum, settled_by_one, too_few, replaced, item_x, no_command, late, waiting, too_early, settler_stops, put_beside_none, transfers, two_snaps, put_and_snap, unheard, one_put, early_mark, gateway_stops, node_stops, asks_and_stops, put_x7, put_x5, put_a3, move_a_b2, get_beside_add, whole_move, full_key, empty_keys, two_puts, greatest_clock, put_beside_snap, heard_not_settled, replied_again};
 
 /// A put and a get: calm rounds over an empty history give the whole journal, entry by entry.
 pub fn put_and_get()
@@ -107,6 +109,13 @@ pub fn begin_after_a_reply_elsewhere()
     ensures lines { numbers waiting [] too_early ≡ 1 ∷ 0 ∷ 0 ∷ [] }
     ensures replies { told (calm waiting (drive waiting [] too_early)) ≡ to 0 1 (Done (number 100 0) []) ∷ to 1 1 (Done (number 101 1) (with (codes "x") (Number (pos 7)) ∷ [])) ∷ [] }
     ensures calm { told (calm waiting []) ≡ to 0 1 (Done (number 1 0) []) ∷ to 1 1 (Done (number 2 1) (with (codes "x") (Number (pos 7)) ∷ [])) ∷ [] }
+{}
+
+/// A lawful history with entries of all thirteen kinds: the command that waits is replied, and then the settler stops. So no condition
+/// on an entry is too strong to be met.
+pub fn example_is_lawful()
+    ensures lawful { Lawful waiting (drive waiting (calm waiting []) settler_stops) }
+    ensures kinds { has_all_kinds (drive waiting (calm waiting []) settler_stops) ≡ true }
 {}
 
 /// A stopped gateway holds the watermark for ever, and the world is not whole; one stopped node of three does no harm.

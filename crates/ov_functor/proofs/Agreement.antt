@@ -1,7 +1,7 @@
 -- The functor of a key gives what the whole transaction gives.
 use Rattle.std.proofs.Common.{◌≡◌, ℕ, Bool, true, false, ◌&&◌, Some, None, Option, List, [], ◌∷◌, map, refl, ◌∙◌, ap, subst, arith}
 use Rattle.std.proofs.lemmas.Grind.{common_steps}
-use Rattle.ov_base.specs.Key.{key_eq, key_eq-equiv, key_eq-cases}
+use Rattle.ov_base.specs.Lemmas.{key_eq-cases}
 use Rattle.ov_base.specs.declared.value.Value.{Value}
 use Rattle.ov_functor.specs.declared.effect.Effect.{Effect}
 use Rattle.ov_functor.specs.declared.effect.Effect.TheVariants as effects
@@ -11,10 +11,6 @@ use Rattle.ov_functor.specs.declared.part.Part.TheVariants as parts
 use Rattle.ov_functor.specs.Execution.{Map, changed, covers, moves_of, hold, written, all_written, exec}
 use Rattle.ov_functor.specs.Functor.{effect_in, effect_of, or_else, functor_by, functor_of, move_keys, reads, inputs_hold, input_at, applied, apply}
 use Rattle.ov_functor.specs.Placeholder.{Placeholder}
-
--- a key is the same as itself
-pub key_eq-self : (key : List ℕ) → key_eq key key ≡ true
-key_eq-self key = key_eq-equiv.refl key
 
 -- what an effect makes of a value, where there is one
 abbrev pub changed_by : Option Effect → Value → Value

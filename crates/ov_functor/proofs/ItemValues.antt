@@ -1,7 +1,8 @@
 -- The values of a transaction's items, set over the old map, are what executing it whole gives.
 use Rattle.std.proofs.Common.{◌≡◌, ℕ, true, List, [], ◌∷◌, ◌++◌, map, Option, Some, None, refl, sym, ap, subst, ◌∙◌, inl, inr, ◌⊎◌}
 use Rattle.std.proofs.lemmas.Bool.{cases_Bool}
-use Rattle.ov_base.specs.Key.{key_eq, key_eq-equiv, key_eq-exact}
+use Rattle.ov_base.specs.Key.{key_eq}
+use Rattle.ov_base.specs.Lemmas.{key_eq-equiv, key_eq-exact}
 use Rattle.ov_functor.specs.declared.effect.Effect.{Effect}
 use Rattle.ov_functor.specs.declared.effect.Effect.TheVariants as effects
 use Rattle.ov_functor.specs.declared.part.Part.{Part}

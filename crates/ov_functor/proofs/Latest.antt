@@ -2,11 +2,12 @@
 use Rattle.std.proofs.Common.{◌≡◌, ℕ, ◌≤◌, ◌<◌, Bool, true, false, ◌&&◌, Some, None, Option, List, [], ◌∷◌, ◌++◌, refl, sym, ◌∙◌, ap, subst, arith, inl, inr, ◌⊎◌}
 use Rattle.std.specs.Prelude.{if◌then◌else◌, nat_lt}
 use Rattle.std.proofs.lemmas.Grind.{common_steps}
-use Rattle.ov_base.specs.Key.{key_eq, key_eq-exact}
+use Rattle.ov_base.specs.Key.{key_eq}
+use Rattle.ov_base.specs.Lemmas.{key_eq-exact}
+use Rattle.ov_base.proofs.Keys.{key_eq-self}
 use Rattle.ov_functor.specs.declared.item.Valued.{Valued}
 use Rattle.ov_functor.specs.Values.{later, latest}
 use Rattle.ov_functor.specs.Windows.{Among}
-use Rattle.ov_functor.proofs.Agreement.{key_eq-self}
 
 -- ---- lists that have a value
 

@@ -9,3 +9,5 @@ pub mod Among
 pub mod ItemValues
 pub mod PartWords
 pub mod PartWordsAgain
+pub mod ReplyWords
+pub mod KeptMaps

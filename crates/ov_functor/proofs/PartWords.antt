@@ -1,37 +1,21 @@
 -- Parts that are read are those of their text.
-use Rattle.std.proofs.Common.{◌≡◌, ℕ, ℤ, pos, eqb, List, [], ◌∷◌, map, Some, Bor, refl, sym, ap, subst, ◌∙◌, codes, ◌==◌}
+use Rattle.std.proofs.Common.{◌≡◌, ℕ, ℤ, pos, List, [], ◌∷◌, map, Some, refl, sym, ap, subst, ◌∙◌, codes}
 use Rattle.std.specs.Prelude.{int_le}
-use Rattle.std.specs.List.{slice_split, AllByRecursion}
+use Rattle.std.specs.List.{AllByRecursion}
 use Rattle.std.specs.Str.{bytes_eq}
-use Rattle.std.proofs.lemmas.Bool.{eqb-true}
 use Rattle.std.proofs.lemmas.Option.{cond_some}
-use Rattle.ov_base.specs.Split.{joined, all_of}
+use Rattle.ov_base.specs.Groups.{words_of, is_separator, groups_of, groups_text}
 use Rattle.ov_base.specs.Key.{IsKey, key_of}
 use Rattle.ov_base.specs.Amount.{IsAmount, amount_text, amount_of}
 use Rattle.ov_base.proofs.Readers.{bind_some, word_is, chosen, either}
 use Rattle.ov_base.proofs.Keys.{key_takes}
 use Rattle.ov_base.proofs.Amounts.{amount_takes}
-use Rattle.ov_base.proofs.Joins.{joined_split, joined_groups, split_some}
-use Rattle.ov_base.proofs.Traverse.{all_of_map, all_of_takes, split_map}
+use Rattle.ov_base.proofs.GroupTexts.{groups_takes}
+use Rattle.ov_base.proofs.Joins.{joined_groups, split_some}
+use Rattle.ov_base.proofs.Traverse.{all_of_takes}
 use Rattle.ov_functor.specs.declared.part.Part.{Part}
 use Rattle.ov_functor.specs.declared.part.Part.TheVariants.{Put, Del, Add, Least, Greatest, Move, Get}
-use Rattle.ov_functor.specs.Words.{part_words, parts_text, IsPart, IsParts, key_part, amount_part, key_part_of, amount_part_of, move_of, move_part_of, part_of, is_separator, parts_of}
-
--- ---- the words that the code keeps
-
--- the words and pieces that the code keeps are read as those of the text
-pub pieces_read : (text : List ℕ) (words : List (Bor (List ℕ))) (pieces : List (Bor (List (Bor (List ℕ)))))
-    → map (λ w. w.now) words ≡ slice_split (λ b. b == 32) text → map (λ g. g.now) pieces ≡ slice_split (λ w. is_separator w.now) words
-    → all_of (λ g. part_of (map (λ w. w.now) g.now)) pieces ≡ parts_of text
-unfolding parts_of
-pieces_read text words pieces cut grouped =
-    rw (
-      ← cut,
-      split_map is_separator (λ (w : Bor (List ℕ)). w.now) words,
-      ← grouped,
-      all_of_map part_of (map (λ (w : Bor (List ℕ)). w.now)) (map (λ (g : Bor (List (Bor (List ℕ)))). g.now) pieces),
-      all_of_map (λ (g : List (Bor (List ℕ))). part_of (map (λ (w : Bor (List ℕ)). w.now) g)) (λ (g : Bor (List (Bor (List ℕ)))). g.now) pieces,
-    ) refl
+use Rattle.ov_functor.specs.Words.{part_words, parts_text, IsPart, IsParts, key_part, amount_part, key_part_of, amount_part_of, move_of, move_part_of, part_of, parts_of}
 
 -- ---- the words of a part
 
@@ -112,7 +96,7 @@ words_some (Move from to amount) = (codes "move", from ∷ to ∷ amount_text am
 words_some (Get key) = (codes "get", key ∷ [], refl)
 
 -- the words of parts, with `;` between the parts, and a space between all the words
-pub parts_joined : (parts : List Part) → joined 32 (joined (codes ";") (map part_words parts)) ≡ parts_text parts
+pub parts_joined : (parts : List Part) → groups_text (map part_words parts) ≡ parts_text parts
 parts_joined [] = refl
 parts_joined (part ∷ others) = joined_groups 32 (codes ";") part_words words_some part others
 
@@ -125,12 +109,6 @@ parts_some pieces piece others (part ∷ more) e f h = h
 pub parts_takes : (bytes : List ℕ) (parts : List Part) → parts_of bytes ≡ Some parts → IsParts parts × (bytes ≡ parts_text parts)
 unfolding parts_of
 parts_takes bytes parts e =
-    let words = slice_split (λ b. eqb b 32) bytes in
-    let pieces = slice_split is_separator words in
-    let all = all_of_takes part_of IsPart part_words part_takes pieces parts e in
-    let some = split_some is_separator words in
-    let text : joined 32 (joined (codes ";") pieces) ≡ parts_text parts = ap (λ (t : List (List (List ℕ))). joined 32 (joined (codes ";") t)) all.1 ∙ parts_joined parts in (
-      parts_some pieces some.0 some.1 parts some.2 all.1 all.0,
-      sym (joined_split (λ b. eqb b 32) 32 (λ x h. eqb-true x 32 h) bytes)
-          ∙ ap (joined 32) (sym (joined_split is_separator (codes ";") (λ x h. word_is x (codes ";") h) words)) ∙ text,
-    )
+    let all = all_of_takes part_of IsPart part_words part_takes (groups_of bytes) parts e in
+    let some = split_some is_separator (words_of bytes) in
+    (parts_some (groups_of bytes) some.0 some.1 parts some.2 all.1 all.0, sym (groups_takes bytes) ∙ ap groups_text all.1 ∙ parts_joined parts)

@@ -6,11 +6,9 @@ pub mod Transaction
 pub mod Items
 pub mod Words
 pub mod Reply
+pub mod ReplyWords
 pub mod Serial
 pub mod Values
+pub mod Kept
 pub mod Windows
-pub mod PartTests
-pub mod MoveTests
-pub mod FunctorTests
-pub mod ShownTests
-pub mod CommandTests
+pub mod Lemmas

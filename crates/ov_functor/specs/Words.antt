@@ -1,8 +1,9 @@
 -- Parts as words: their text, which parts have one, and how a text is read.
-use Rattle.std.specs.Prelude.{◌≡◌, ℕ, ℤ, pos, int_le, Bool, true, ◌==◌, List, [], ◌∷◌, ◌++◌, codes, Option, Some, None, if◌then◌else◌}
-use Rattle.std.specs.List.{slice_split, flat_map, AllByRecursion}
+use Rattle.std.specs.Prelude.{◌≡◌, ℕ, ℤ, pos, int_le, true, List, [], ◌∷◌, ◌++◌, codes, Option, Some, None, if◌then◌else◌}
+use Rattle.std.specs.List.{flat_map, AllByRecursion}
 use Rattle.std.specs.Str.{bytes_eq}
 use Rattle.ov_base.specs.Word.{◌>>=◌}
+use Rattle.ov_base.specs.Groups.{groups_of}
 use Rattle.ov_base.specs.Split.{joined, all_of}
 use Rattle.ov_base.specs.Key.{IsKey, key_of}
 use Rattle.ov_base.specs.Amount.{IsAmount, amount_text, amount_of}
@@ -101,10 +102,10 @@ part_of (word ∷ key ∷ amount ∷ []) = amount_part_of word key amount
 part_of (word ∷ from ∷ to ∷ amount ∷ []) = move_part_of word from to amount
 part_of (word ∷ from ∷ to ∷ amount ∷ more ∷ words) = None
 
--- whether the word is `;`
-abbrev pub is_separator : List ℕ → Bool
-is_separator word = bytes_eq word (codes ";")
+-- reading parts: a part of the words of each group
+abbrev pub parts_in : List (List (List ℕ)) → Option (List Part)
+parts_in groups = all_of part_of groups
 
--- reading parts: the words of the text, cut at each `;`, and a part of the words of each piece
+-- reading the text of parts, between which the word `;` stands
 unfoldable pub parts_of : List ℕ → Option (List Part)
-parts_of text = all_of part_of (slice_split is_separator (slice_split (λ b. b == 32) text))
+parts_of text = parts_in (groups_of text)

@@ -1,6 +1,6 @@
 //! Commands: what a session asks of the store.
-ghost use Rattle.ov_base.specs.Tests.{exact_tests};
-ghost use Rattle.ov_functor.specs.CommandTests.{transaction-cases};
+ghost use Rattle.ov_base.specs.Lemmas.{exact_tests};
+ghost use Rattle.ov_functor.specs.Lemmas.Functors.{transaction-cases};
 
 use crate::transaction::Transaction;
 use ov_base::{Key, Memory, Plain, Sequence};

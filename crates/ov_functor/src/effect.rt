@@ -1,5 +1,5 @@
 //! What a transaction does to one key.
-ghost use Rattle.ov_base.specs.Tests.{exact_tests};
+ghost use Rattle.ov_base.specs.Lemmas.{exact_tests};
 ghost use Rattle.std.specs.Prelude.{◌≡◌};
 ghost use Rattle.ov_functor.specs.Execution.{changed, least_value, greatest_value};
 

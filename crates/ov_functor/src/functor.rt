@@ -1,10 +1,10 @@
 //! Functors: the stored placeholders of values.
 ghost use Rattle.std.specs.Prelude.{◌≡◌, ◌≤◌, ◌<◌, ◌*◌, ◌&&◌, not, nat_le, length, Some, slice_get};
 ghost use Rattle.std.specs.List.{list_all, list_any};
-ghost use Rattle.ov_base.specs.Tests.{exact_tests};
+ghost use Rattle.ov_base.specs.Lemmas.{exact_tests};
 ghost use Rattle.ov_functor.specs.Functor.{reads, reads_own, move_keys, apply, applied, functor_holds, inputs_hold, input_at};
 ghost use Rattle.ov_functor.specs.Form.{formed, is_functor, are_apart, stands_in, is_side, moves_some, effect_form, goes_from, goes_to};
-ghost use Rattle.ov_functor.specs.MoveTests.{moves-cases};
+ghost use Rattle.ov_functor.specs.Lemmas.Parts.{moves-cases};
 
 use crate::effect::Effect;
 use crate::part::Move;
@@ -46,7 +46,7 @@ impl Model for Functor {
 
 impl Functor {
     /// The functor of a key, its effect and its moves. `Form` comes exactly where they are off the form
-    /// (docs/STORE.md, Functors). Takes no memory.
+    /// (docs/STORE.md, Functors). Does not allocate.
     pub fn new(key: Key, effect: Effect, moves: Vec<Move>) -> Result<Functor, FunctorError>
         ensures { result ≡ formed (record { key = key; effect = effect; moves = moves.items }) }
     {
@@ -89,6 +89,13 @@ impl Functor {
         ensures few { length self.now.moves ≤ 8 }
     {
         self.moves.as_slice()
+    }
+
+    /// Whether its key, its effect and its moves are on the form of functors (docs/STORE.md, Functors).
+    pub fn has_form(&self) -> bool
+        ensures { result ≡ is_functor self.now }
+    {
+        is_form(&self.key, &self.effect, self.moves.as_slice())
     }
 
     /// Whether the own key is read first.
@@ -134,7 +141,7 @@ impl Functor {
         }
     }
 
-    /// Its value, from the previous values of the keys that it reads, in their order. Takes no memory.
+    /// Its value, from the previous values of the keys that it reads, in their order. Does not allocate.
     pub fn apply(&self, inputs: &[Value]) -> Value
         requires { length inputs.now ≡ length (reads self.now) }
         ensures { result ≡ apply self.now inputs.now }
@@ -154,7 +161,7 @@ impl Functor {
         }
     }
 
-    /// Whether all its moves hold on the previous values of the keys that it reads. Takes no memory.
+    /// Whether all its moves hold on the previous values of the keys that it reads. Does not allocate.
     pub fn moves_hold(&self, inputs: &[Value]) -> bool
         requires { length inputs.now ≡ length (reads self.now) }
         ensures { result ≡ functor_holds self.now inputs.now }

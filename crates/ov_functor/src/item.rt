@@ -1,6 +1,6 @@
 //! Items: functors at their versions. And what replies show.
-ghost use Rattle.ov_base.specs.Tests.{exact_tests};
-ghost use Rattle.ov_functor.specs.FunctorTests.{functor-cases};
+ghost use Rattle.ov_base.specs.Lemmas.{exact_tests};
+ghost use Rattle.ov_functor.specs.Lemmas.Functors.{functor-cases};
 
 use crate::functor::Functor;
 use ov_base::{Key, Memory, Plain, Value, Version};

@@ -9,8 +9,8 @@ use crate::transaction::Transaction;
 use ov_base::{Key, Memory, Sequence, Version};
 use std::alloc::Global;
 
-/// The items of a transaction at its version: the functor of each key that it writes, in reading order. Only
-/// want of memory is an error.
+/// The items of a transaction at its version: the functor of each key that it writes, in reading order. The
+/// only error is out of memory.
 pub fn items_of(
     alloc: Global,
     version: Version,

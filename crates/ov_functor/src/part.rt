@@ -1,6 +1,6 @@
 //! The parts of transactions, and the moves among them.
 ghost use Rattle.std.specs.Prelude.{◌≡◌};
-ghost use Rattle.ov_base.specs.Tests.{exact_tests};
+ghost use Rattle.ov_base.specs.Lemmas.{exact_tests};
 ghost use Rattle.ov_functor.specs.Execution.{covers};
 
 use ov_base::{Amount, Key, Memory, Plain, Value};
@@ -45,7 +45,7 @@ pub struct Move {
 
 impl Move {
     /// Whether it holds between keys of these values: the first has the amount, an absent value counted as 0,
-    /// and the second has room for it. Takes no memory.
+    /// and the second has room for it. Does not allocate.
     #[tactic(auto, unfolding(crate::specs::Execution::covers))]
     pub fn holds(&self, from: Value, to: Value) -> bool
         ensures { result ≡ covers self.now.amount from to }

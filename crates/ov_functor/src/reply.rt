@@ -1,14 +1,14 @@
-//! Replies: what a command answers.
-ghost use Rattle.ov_base.specs.Tests.{exact_tests};
+//! Replies: what a command returns.
+ghost use Rattle.ov_base.specs.Lemmas.{exact_tests};
 ghost use Rattle.ov_base.specs.Word.{Printed};
-ghost use Rattle.ov_functor.specs.ShownTests.{showns-cases};
+ghost use Rattle.ov_functor.specs.Lemmas.Items.{showns-cases};
 ghost use Rattle.ov_functor.specs.Reply.{reply_text, reply_by, showns_text, shown_text};
 
 use crate::item::Shown;
 use ov_base::{Memory, Plain, Sequence, Version, print_mark};
 use std::alloc::Global;
 
-/// What a command answers (docs/STORE.md, Replies).
+/// What a command returns (docs/STORE.md, Replies).
 #[derive(Debug, PartialEq, Eq, Drop)]
 pub enum Reply {
     /// The transaction was done at this version; the gets stand in the order of its parts.
@@ -29,7 +29,7 @@ pub enum Reply {
 }
 
 impl Reply {
-    /// Writes the one spelling at the end (docs/FORMATS.md, Replies). On an error a front of it was written.
+    /// Writes the one spelling at the end (docs/FORMATS.md, Replies). On an error a prefix of it was written.
     pub fn print_to(&self, alloc: Global, text: &mut Vec<u8>) -> Result<(), Memory>
         ensures { Printed result text.old.items text.new.items (reply_text self.now) }
     {

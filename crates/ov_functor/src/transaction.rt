@@ -1,10 +1,10 @@
 //! Transactions: what is executed whole at one version.
 ghost use Rattle.std.specs.Prelude.{◌≡◌, ◌≤◌, [], ◌++◌, true, length, IfOk, Some, None, if◌then◌else◌};
 ghost use Rattle.std.specs.List.{list_all};
-ghost use Rattle.ov_base.specs.Tests.{exact_tests};
+ghost use Rattle.ov_base.specs.Lemmas.{exact_tests};
 ghost use Rattle.ov_functor.specs.Execution.{moves_of};
 ghost use Rattle.ov_functor.specs.Functor.{functor_of, effect_of, effect_in, effect_at};
-ghost use Rattle.ov_functor.specs.PartTests.{parts-cases};
+ghost use Rattle.ov_functor.specs.Lemmas.Parts.{parts-cases};
 ghost use Rattle.ov_functor.specs.Transaction.{IsTransaction, transaction_error, made_by, repeated_from, repeated_in, key_if, gets, is_written, is_got, is_positive};
 
 use crate::effect::Effect;
@@ -42,7 +42,7 @@ impl Model for Transaction {
 impl Transaction {
     /// The transaction of these parts, or why they are none: `Empty` exactly where there is no part,
     /// `TooMany` exactly where there are more than 8, and else `SameKey` exactly where a key is written twice
-    /// or got twice, with the first in reading order that repeats an earlier one of its kind. Takes no memory.
+    /// or got twice, with the first in reading order that repeats an earlier one of its kind. Does not allocate.
     /// Condition: each move is of at least 1.
     pub fn new(parts: Vec<Part>) -> Result<Transaction, TxnError>
         requires { list_all is_positive parts.items ≡ true }
@@ -64,7 +64,7 @@ impl Transaction {
         self.parts.as_slice()
     }
 
-    /// The functor of this key. None exactly where the key is not written. Only want of memory is an error.
+    /// The functor of this key. None exactly where the key is not written. The only error is out of memory.
     pub fn functor_for(&self, key: Key) -> Result<Option<Functor>, Memory>
         ensures { IfOk result (λ f. f ≡ functor_of self.now key) }
     {
@@ -74,7 +74,7 @@ impl Transaction {
         }
     }
 
-    /// Its moves, in their order. Only want of memory is an error.
+    /// Its moves, in their order. The only error is out of memory.
     fn moves(&self) -> Result<Sequence<Move>, Memory>
         ensures moves { IfOk result (λ moves. moves ≡ moves_of self.now) }
         ensures few { IfOk result (λ moves. length moves ≤ 8) }
@@ -83,7 +83,7 @@ impl Transaction {
     }
 }
 
-/// These moves, and after them the moves of the parts, in their order. Only want of memory is an error.
+/// These moves, and after them the moves of the parts, in their order. The only error is out of memory.
 fn moves_after(mut moves: Sequence<Move>, parts: &[Part]) -> Result<Sequence<Move>, Memory>
     ensures { IfOk result (λ all. all ≡ moves ++ moves_of parts.now) }
 {

@@ -1,18 +1,19 @@
 //! The parts of a transaction as text.
-ghost use Rattle.std.specs.Prelude.{◌≡◌, ◌∷◌, ◌++◌, [], map, IfOk};
-ghost use Rattle.std.specs.List.{slice_split, flat_map};
+ghost use Rattle.std.specs.Prelude.{◌≡◌, ◌∷◌, ◌++◌, [], IfOk};
+ghost use Rattle.std.specs.List.{flat_map};
 ghost use Rattle.std.specs.Option.{option_map};
 ghost use Rattle.ov_base.specs.Word.{Reads, Printed};
-ghost use Rattle.ov_base.specs.Split.{joined, all_of};
+ghost use Rattle.ov_base.specs.Groups.{words_in, groups_in};
+ghost use Rattle.ov_base.specs.Split.{joined};
 ghost use Rattle.ov_base.specs.Amount.{amount_text};
-ghost use Rattle.ov_functor.specs.Words.{part_text, further_text, parts_text, IsParts, key_part, amount_part, move_part, key_part_of, amount_part_of, move_of, move_part_of, part_of, is_separator, parts_of};
+ghost use Rattle.ov_functor.specs.Words.{part_text, further_text, parts_text, IsParts, key_part, amount_part, move_part, key_part_of, amount_part_of, move_of, move_part_of, part_of, parts_in, parts_of};
 
 use crate::part::Part;
-use ov_base::{Amount, Key, Memory, parts_at};
-use std::alloc::{AllocError, Global};
+use ov_base::{Amount, Key, Memory, groups_at, parts_at};
+use std::alloc::Global;
 
 /// The parts that the bytes spell (docs/FORMATS.md, Parts): one or more parts with ` ; ` between them. None
-/// exactly where they spell none; only want of memory is an error.
+/// exactly where they spell none; the only error is out of memory.
 pub fn parse_parts(alloc: Global, text: &[u8]) -> Result<Option<Vec<Part>>, Memory>
     ensures exact { IfOk result (λ o. option_map (λ v. v.items) o ≡ parts_of text.now) }
     ensures reads { IfOk result (λ o. Reads parts_text IsParts text.now (option_map (λ v. v.items) o)) }
@@ -24,32 +25,18 @@ fn parts_read(alloc: Global, text: &[u8]) -> Result<Option<Vec<Part>>, Memory>
     ensures { IfOk result (λ o. option_map (λ v. v.items) o ≡ parts_of text.now) }
 {
     let words = parts_at(alloc, text, b' ')?;
-    let pieces = pieces_of(alloc, words.as_slice())?;
-    parse_pieces(alloc, pieces.as_slice())
+    let groups = groups_at(alloc, words.as_slice())?;
+    parts_in_groups(alloc, groups.as_slice())
 }
 
-/// The words between the separators.
-fn pieces_of<'a, 'b>(
-    alloc: Global,
-    words: &'b [&'a [u8]],
-) -> Result<Vec<&'b [&'a [u8]]>, AllocError>
-    ensures { IfOk result (λ v. map (λ g. g.now) v.items ≡ slice_split (λ w. is_separator w.now) words.now) }
-{
-    words.split(|word| separates(word)).collect(alloc)
-}
-
-fn separates(word: &[u8]) -> bool
-    ensures { result ≡ is_separator word.now }
-{
-    word == b";".as_slice()
-}
-
-fn parse_pieces(alloc: Global, pieces: &[&[&[u8]]]) -> Result<Option<Vec<Part>>, Memory>
-    ensures { IfOk result (λ o. option_map (λ v. v.items) o ≡ all_of (λ g. part_of (map (λ w. w.now) g.now)) pieces.now) }
+/// The parts that the groups of words spell, a part for each group. None exactly where one spells none; the
+/// only error is out of memory.
+pub fn parts_in_groups(alloc: Global, groups: &[&[&[u8]]]) -> Result<Option<Vec<Part>>, Memory>
+    ensures { IfOk result (λ o. option_map (λ v. v.items) o ≡ parts_in (groups_in groups.now)) }
 {
     let mut parts = Vec::new(alloc);
-    for piece in pieces {
-        match parse_part(piece) {
+    for group in groups {
+        match parse_part(group) {
             None => return Ok(None),
             Some(part) => parts.push(part)?,
         }
@@ -59,7 +46,7 @@ fn parse_pieces(alloc: Global, pieces: &[&[&[u8]]]) -> Result<Option<Vec<Part>>,
 
 #[tactic(auto, unfolding(crate::specs::Words::part_of))]
 fn parse_part(words: &[&[u8]]) -> Option<Part>
-    ensures { result ≡ part_of (map (λ w. w.now) words.now) }
+    ensures { result ≡ part_of (words_in words.now) }
 {
     match words {
         [word, key] => parse_key_part(word, key),
@@ -141,7 +128,7 @@ fn move_between(from: Key, to: Key, amount: Amount) -> Option<Part>
 }
 
 /// Writes the parts at the end, with ` ; ` between them (docs/FORMATS.md, Parts); no part writes nothing. On
-/// an error a front of that text was written.
+/// an error a prefix of that text was written.
 pub fn print_parts(alloc: Global, parts: &[Part], text: &mut Vec<u8>) -> Result<(), Memory>
     ensures { Printed result text.old.items text.new.items (parts_text parts.now) }
 {

@@ -1,19 +1,13 @@
 -- The least and the greatest of a list of marks: their laws, and the step of a loop that gathers them.
 use Rattle.std.proofs.Common.{◌≡◌, ℕ, zero, suc, ◌+◌, ◌<◌, ◌≤◌, List, [], ◌∷◌, length, get_or, drop, ◌⊎◌, inl, inr, refl, ◌∙◌, arith}
-use Rattle.std.specs.Prelude.{min, max}
-use Rattle.std.proofs.lemmas.Grind.{common_steps}
+use Rattle.std.specs.Prelude.{min}
 use Rattle.std.proofs.lemmas.List.{drop_more}
+use Rattle.ov_base.proofs.Orders.{min_either, max_either}
 use Rattle.ov_gossip.specs.Marks.{no_marks, mark_at, IsLeast, IsGreatest, least_from, least, greatest}
 use Rattle.ov_gossip.specs.declared.marks.Marks.{Marks}
 
 min_swap : (a b c : ℕ) → min a (min b c) ≡ min b (min a c)
 min_swap a b c = omega arith
-
-min_either : (a b : ℕ) → (min a b ≡ a) ⊎ (min a b ≡ b)
-min_either a b = grind (arith, common_steps)
-
-max_either : (a b : ℕ) → (max a b ≡ a) ⊎ (max a b ≡ b)
-max_either a b = grind (arith, common_steps)
 
 -- a number may be taken first or last
 pub least_again : (f : Marks → ℕ) (number : ℕ) (marks : Marks) (vector : List Marks)

@@ -1,3 +1,3 @@
 pub mod Marks
 pub mod Padded
-pub mod VectorTests
+pub mod Lemmas

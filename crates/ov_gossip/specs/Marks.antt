@@ -2,6 +2,8 @@
 use Rattle.std.specs.Prelude.{◌≡◌, ◌≢◌, ℕ, ◌<◌, ◌≤◌, min, max, List, [], ◌∷◌, length, get_or}
 use Rattle.ov_base.specs.Version.{time_of}
 use Rattle.ov_gossip.specs.declared.marks.Marks.{Marks}
+use Rattle.ov_gossip.specs.declared.vector.Which.{Which}
+use Rattle.ov_gossip.specs.declared.vector.Which.TheVariants.{Low, Full, Done}
 
 -- the marks of a gateway that has said nothing
 abbrev pub no_marks : Marks
@@ -45,7 +47,7 @@ pub record IsGreatest (f : Marks → ℕ) (vector : List Marks) (greatest : ℕ)
   pub there : place < length vector
   pub is : greatest ≡ f (mark_at vector place)
 
--- the three marks, and the time of a low mark
+-- the three marks, one of them by its name, and the time of a low mark
 abbrev pub low_of : Marks → ℕ
 low_of marks = marks.low
 
@@ -54,6 +56,11 @@ full_of marks = marks.full
 
 abbrev pub done_of : Marks → ℕ
 done_of marks = marks.done
+
+abbrev pub mark_of : Which → Marks → ℕ
+mark_of Low = low_of
+mark_of Full = full_of
+mark_of Done = done_of
 
 abbrev pub low_time : Marks → ℕ
 low_time marks = time_of marks.low

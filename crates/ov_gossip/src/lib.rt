@@ -2,7 +2,7 @@
 //!
 //! The promise to the layers above: a vector is the list of the marks of all gateways; raising and merging
 //! take the greater mark at each place that they touch, and all other places stay; the watermarks are the
-//! least marks. Nothing takes memory.
+//! least marks. Nothing allocates.
 //!
 //! Start with `specs/Marks.antt`.
 #![tactic(auto)]

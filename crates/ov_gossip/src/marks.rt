@@ -1,6 +1,6 @@
 //! The marks of one gateway.
 ghost use Rattle.std.specs.Prelude.{◌≡◌};
-ghost use Rattle.ov_base.specs.Tests.{exact_tests};
+ghost use Rattle.ov_base.specs.Lemmas.{exact_tests};
 ghost use Rattle.ov_gossip.specs.Marks.{greater};
 
 use ov_base::{Memory, Plain};

@@ -1,11 +1,11 @@
 //! The marks of all gateways.
 ghost use Rattle.std.specs.Prelude.{◌≡◌, ◌<◌, ◌≤◌, length, replicate};
 ghost use Rattle.std.specs.Cmp.{partial_equiv_from_equiv};
-ghost use Rattle.ov_gossip.specs.Marks.{no_marks, mark_at, IsVector, Raised, Merged, IsLeast, IsGreatest, least, greatest, low_of, full_of, done_of, low_time};
-ghost use Rattle.ov_gossip.specs.VectorTests.{vector_eq, vector_eq-equiv, vector_eq-exact};
+ghost use Rattle.ov_gossip.specs.Marks.{no_marks, mark_at, IsVector, Raised, Merged, IsLeast, IsGreatest, least, greatest, low_of, full_of, done_of, mark_of, low_time};
+ghost use Rattle.ov_gossip.specs.Lemmas.{vector_eq, vector_eq-equiv, vector_eq-exact};
 
 use crate::marks::Marks;
-use ov_base::{Memory, Plain};
+use ov_base::{GATE_LIMIT, Memory, Plain};
 use std::marker::Model;
 
 /// The marks of 1 to 8 gateways, by gateway, held in place (docs/STORE.md, Watermarks). Contracts see the list.
@@ -19,7 +19,8 @@ impl Model for Vector {
     ghost use Rattle.std.specs.Prelude.{List, take, length, ◌-◌, ◌++◌, replicate};
     ghost use Rattle.ov_gossip.specs.declared.marks.Marks.{Marks};
     ghost use Rattle.ov_gossip.specs.Marks.{no_marks};
-    ghost use Rattle.ov_gossip.specs.Padded.{vector_room, IsPadded, padded_marks, padded_count};
+    ghost use Rattle.ov_gossip.specs.Lemmas.{padded_marks, padded_count};
+    ghost use Rattle.ov_gossip.specs.Padded.{vector_room, IsPadded};
 
     ghost Value = { List Marks };
 
@@ -49,6 +50,24 @@ impl Vector {
         Vector {
             marks: [nothing; 8],
             count: gateways,
+        }
+    }
+
+    /// The vector of these marks, by gateway. Condition: they are those of 1 to 8 gateways.
+    pub fn of(marks: &[Marks]) -> Vector
+        requires { IsVector marks.now }
+        ensures { result ≡ marks.now }
+    {
+        let nothing = Marks {
+            low: 0,
+            full: 0,
+            done: 0,
+        };
+        let mut places = [nothing; 8];
+        places[..marks.len()].copy_from_slice(marks);
+        Vector {
+            marks: places,
+            count: marks.len() as u32,
         }
     }
 
@@ -93,7 +112,7 @@ impl Vector {
         ensures value { result ≡ least low_of self.now }
         ensures least { IsLeast low_of self.now result }
     {
-        least_low(self.listed())
+        least_of(self.listed(), Which::Low)
     }
 
     /// The replica watermark: the least `full`.
@@ -101,7 +120,7 @@ impl Vector {
         ensures value { result ≡ least full_of self.now }
         ensures least { IsLeast full_of self.now result }
     {
-        least_full(self.listed())
+        least_of(self.listed(), Which::Full)
     }
 
     /// Below it all is replied: the least `done`.
@@ -109,7 +128,7 @@ impl Vector {
         ensures value { result ≡ least done_of self.now }
         ensures least { IsLeast done_of self.now result }
     {
-        least_done(self.listed())
+        least_of(self.listed(), Which::Done)
     }
 
     /// The greatest time of a `low`.
@@ -121,7 +140,7 @@ impl Vector {
     }
 
     /// The marks of all gateways, by gateway.
-    fn listed(&self) -> &[Marks]
+    pub fn listed(&self) -> &[Marks]
         ensures marks { result.now ≡ self.now }
         ensures form { IsVector self.now }
     {
@@ -129,35 +148,35 @@ impl Vector {
     }
 }
 
-fn least_low(marks: &[Marks]) -> u64
-    requires { 0 < length marks.now }
-    ensures { result ≡ least low_of marks.now }
-{
-    let mut least = marks[0].low;
-    for mark in marks {
-        least = mark.low.min(least);
-    }
-    least
+/// One of the three marks.
+#[derive(Clone, Copy, Debug)]
+pub enum Which {
+    Low,
+    Full,
+    Done,
 }
 
-fn least_full(marks: &[Marks]) -> u64
-    requires { 0 < length marks.now }
-    ensures { result ≡ least full_of marks.now }
-{
-    let mut least = marks[0].full;
-    for mark in marks {
-        least = mark.full.min(least);
+impl Which {
+    /// That mark of a gateway.
+    fn of(self, marks: Marks) -> u64
+        ensures { result ≡ mark_of self marks }
+    {
+        match self {
+            Which::Low => marks.low,
+            Which::Full => marks.full,
+            Which::Done => marks.done,
+        }
     }
-    least
 }
 
-fn least_done(marks: &[Marks]) -> u64
+/// The least of this mark of all.
+fn least_of(marks: &[Marks], which: Which) -> u64
     requires { 0 < length marks.now }
-    ensures { result ≡ least done_of marks.now }
+    ensures { result ≡ least (mark_of which) marks.now }
 {
-    let mut least = marks[0].done;
+    let mut least = which.of(marks[0]);
     for mark in marks {
-        least = mark.done.min(least);
+        least = which.of(*mark).min(least);
     }
     least
 }
@@ -167,7 +186,7 @@ fn greatest_time(marks: &[Marks]) -> u64
 {
     let mut greatest = 0;
     for mark in marks {
-        greatest = (mark.low / 65536).max(greatest);
+        greatest = (mark.low / GATE_LIMIT).max(greatest);
     }
     greatest
 }
@@ -177,7 +196,7 @@ impl PartialEq for Vector {
 
     ghost laws = { partial_equiv_from_equiv vector_eq-equiv };
 
-    #[tactic(auto, unfolding(crate::specs::VectorTests::vector_eq))]
+    #[tactic(auto, unfolding(crate::specs::Lemmas::vector_eq))]
     fn eq(&self, other: &Self) -> bool {
         self.listed() == other.listed()
     }

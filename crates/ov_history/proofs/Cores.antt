@@ -24,7 +24,7 @@ kept_given : (f : Kind → Bool) (given : Option Entry) (e : Entry) → kept f g
 kept_given f None e is = absurd cc
 kept_given f (Some other) e is = (chosen (f other.kind) (Some other) e is).1
 
--- A call that answers with what is given, and after which the core stands for the longer history, says all that a call has to.
+-- A call that returns what is given, and after which the core stands for the longer history, says all that a call has to.
 pub steps : {S : Type 0} (Stands : Setting → History → Actor → S → Type 0) (f : Kind → Bool) (t : Setting) (h : History) (actor : Actor) (act : Act) (answer : Option Entry) (new : S)
     → IsShape t.topology → answer ≡ kept f (gives t h actor act) → Stands t (onto answer h) actor new → Steps Stands f t h actor act answer new
 steps Stands f t h actor act answer new shape given stands = record {
@@ -62,6 +62,6 @@ gives_taken t h actor has_stopped place sent runs there =
     by false true = refl
     by false false = refl
 
--- an entry may follow exactly where its actor gives it for the act that it answers
+-- an entry may follow exactly where its actor gives it for the act to which it belongs
 pub may_where_given : (t : Setting) (h : History) (e : Entry) → IsShape t.topology → (gives t h e.actor (act_of e.kind) ≡ Some e) ↔ May t h e
 may_where_given t h e shape = ((λ is. (given_follows t h e.actor (act_of e.kind) e shape is).0), may_given t h e)

@@ -3,11 +3,12 @@ use Rattle.std.proofs.Common.{◌≡◌, ◌≢◌, ◌==◌, ℕ, ◌+◌, ◌�
 use Rattle.std.specs.Prelude.{if◌then◌else◌, nat_le, nat_lt, slice_get}
 use Rattle.std.specs.List.{AllByRecursion, list_all}
 use Rattle.std.specs.Option.{option_map}
-use Rattle.std.proofs.lemmas.Bool.{leb-true, ltb-true, eqb-true, and_parts}
+use Rattle.std.proofs.lemmas.Bool.{leb-true, ltb-true, eqb-true, and_parts, not-true}
 use Rattle.std.proofs.lemmas.Bool.Decides.{eqb_tells}
 use Rattle.std.proofs.lemmas.Grind.{common_steps}
 use Rattle.std.proofs.lemmas.List.{get_or_push, get_or_append_left}
-use Rattle.ov_base.specs.Version.{number, time_back, gate_back}
+use Rattle.ov_base.specs.Lemmas.{time_back, gate_back}
+use Rattle.ov_base.specs.Version.{number}
 use Rattle.ov_base.proofs.Readers.{bind_some, chosen}
 use Rattle.ov_functor.specs.Execution.{reply_of}
 use Rattle.ov_functor.specs.declared.command.Command.{Command}
@@ -42,7 +43,7 @@ use Rattle.ov_history.specs.Marks.{marks, top_time, own_marks}
 use Rattle.ov_history.specs.Sessions.{events_of}
 use Rattle.ov_history.specs.Nodes.{answer}
 use Rattle.ov_history.specs.Settlers.{Round, open_round, rounds, settled, took, IsEnough, plan_values, known_below, shown, Shows}
-use Rattle.ov_history.specs.May.{Setting, IsTime, MayDraw, StartsAs, MayReply, upper, Guard, May}
+use Rattle.ov_history.specs.May.{Setting, IsTime, MayDraw, StartsAs, MayReply, upper, Guard, MayBy}
 use Rattle.ov_history.specs.Gives.{Act, clock_end, timed, time_at, is_known, ready, start_of, begins, vector_to, publishes, is_own, is_open, gate_takes, node_takes, asks, is_enough, settles, is_current, reply_to, settler_takes, takes_as, takes, acts, gives}
 use Rattle.ov_history.specs.Gives as given
 
@@ -350,15 +351,10 @@ made_of : (actor : Actor) (o : Option Kind) (e : Entry) → option_map (λ (kind
 made_of actor None e is = absurd cc
 made_of actor (Some kind) e is = (kind, refl, cc)
 
--- a test that fails to be denied
-not_true : (b : Bool) → not b ≡ true → b ≡ false
-not_true true is = absurd cc
-not_true false is = refl
-
 -- what an actor gives may follow, and it is the actor's own
-pub given_follows : (t : Setting) (h : History) (actor : Actor) (act : Act) (e : Entry) → IsShape t.topology → gives t h actor act ≡ Some e → (May t h e) × (e.actor ≡ actor)
+pub given_follows : (t : Setting) (h : History) (actor : Actor) (act : Act) (e : Entry) → IsShape t.topology → gives t h actor act ≡ Some e → MayBy t h actor e
 given_follows t h actor act e shape is =
     let q = chosen (is_in t.topology actor && not (stopped actor h)) (option_map (λ kind. record { actor = actor; kind = kind }) (acts t h actor act)) e is in
     let tests = and_parts (is_in t.topology actor) (not (stopped actor h)) q.0 in
     let made = made_of actor (acts t h actor act) e q.1 in
-    rw made.2 (record { known = tests.0; running = not_true (stopped actor h) tests.1; guard = acts_may t h actor act made.0 shape tests.0 made.1 }, refl)
+    rw made.2 (record { known = tests.0; running = not-true (stopped actor h) tests.1; guard = acts_may t h actor act made.0 shape tests.0 made.1 }, refl)

@@ -1,7 +1,7 @@
--- What may follow is given by its actor for the act that it answers.
-use Rattle.std.proofs.Common.{◌≡◌, ◌==◌, ℕ, ◌+◌, ◌≤◌, ◌<◌, ◌^◌, min, max, Bool, true, inl, inr, ◌⊎◌, Some, List, [], ◌∷◌, length, refl, sym, ap, subst, ◌∙◌, arith, zero, suc}
+-- What may follow is given by its actor, for the act to which it belongs.
+use Rattle.std.proofs.Common.{◌≡◌, ℕ, ◌+◌, ◌≤◌, ◌<◌, ◌^◌, min, max, Bool, true, inl, inr, ◌⊎◌, Some, List, [], ◌∷◌, length, refl, sym, ap, subst, ◌∙◌, arith, zero, suc}
 use Rattle.std.specs.List.{AllByRecursion, list_all}
-use Rattle.std.proofs.lemmas.Bool.{lt-ltb, le-leb}
+use Rattle.std.proofs.lemmas.Bool.{lt-ltb, le-leb, eq-eqb}
 use Rattle.std.proofs.lemmas.Bool.Decides.{eqb_tells}
 use Rattle.std.proofs.lemmas.List.{same_lists, get_or_default}
 use Rattle.ov_base.specs.Version.{number, time_of, gate_of}
@@ -39,13 +39,6 @@ use Rattle.ov_history.specs.May.{Setting, IsTime, StartsAs, MayStart, MayPublish
 use Rattle.ov_history.specs.Gives.{clock_end, timed, time_at, is_known, ready, start_of, begins, vector_to, publishes, is_open, asks, is_enough, settles, is_current, reply_to, takes_as, takes, acts, gives, clock_of, act_of}
 use Rattle.ov_history.proofs.Given.{vector_length, vector_at}
 
--- equal numbers pass the test
-eqb_is : (a b : ℕ) → a ≡ b → (a == b) ≡ true
-eqb_is a b same = elim (eqb_tells a b) [
-  | inl is ↦ is.0
-  | inr other ↦ absurd (other.1 same)
-]
-
 -- ---- clocks
 
 -- a reading of the time itself gives it, where it is the least that is allowed or within the range of clocks
@@ -69,7 +62,7 @@ known_waited g h (after ∷ waited) all = rw (le-leb after.seq (known after.sess
 -- a command that may begin is ready
 pub may_ready : (t : Setting) (h : History) (g s c : ℕ) (m : MayBegin t.roster g (events_of g h) s c) → ready t h g s ≡ Some m.planned
 may_ready t h g s c m =
-    rw (m.session, eqb_is m.plan.gate g m.own, eqb_is (begun s (events_of g h)) (replied s (events_of g h)) m.idle, m.further, known_waited g h m.planned.after m.waited) refl
+    rw (m.session, eq-eqb m.plan.gate g m.own, eq-eqb (begun s (events_of g h)) (replied s (events_of g h)) m.idle, m.further, known_waited g h m.planned.after m.waited) refl
 
 -- a version is made of its time and its gateway
 version_back : (version g : ℕ) → gate_of version ≡ g → number (time_of version) g ≡ version
@@ -96,7 +89,7 @@ may_begins t h g s c start may =
 -- the marks at a place of a vector that may be published are those that the gateway gives
 vector_same : (t : Shape) (h : History) (g time : ℕ) (vector : List Marks) → MayPublish t h g time vector → (k : ℕ) → k < gates t → mark_at (vector_to t g time h (gates t)) k ≡ mark_at vector k
 vector_same t h g time vector may k less = vector_at t g time h (gates t) k less ∙ elim (eqb_tells k g) [
-  | inl same ↦ rw same.1 (rw (eqb_is g g refl) (sym may.own))
+  | inl same ↦ rw same.1 (rw (eq-eqb g g refl) (sym may.own))
   | inr other ↦ rw other.0 (sym (may.others k less other.1))
 ]
 
@@ -122,7 +115,7 @@ take_again t h actor place sent kind took is = rw (took.there, took.addressed) i
 -- a command that may be replied is open
 may_open : (t : Setting) (h : History) (g s c : ℕ) (place : Place) (reply : Reply) → MayReply t h place g s c reply → is_open t h g s c ≡ true
 may_open t h g s c place reply may =
-    rw (may.session, eqb_is may.plan.gate g may.own, eqb_is (begun s (events_of g h)) c (sym may.begun_is), eqb_is (replied s (events_of g h) + 1) c (sym may.next)) refl
+    rw (may.session, eq-eqb may.plan.gate g may.own, eq-eqb (begun s (events_of g h)) c (sym may.begun_is), eq-eqb (replied s (events_of g h) + 1) c (sym may.next)) refl
 
 -- ---- what settlers do
 
@@ -135,7 +128,7 @@ may_asks t h s round mode from below may =
     (rw (may.next, may.from_is, may.below_is) refl)
 
 -- answers enough pass the test
-is_enough_where : (t : Shape) (s : ℕ) (round : Round) (h : History) (mode : Mode) (p : ℕ) → IsEnough t s round p h mode → is_enough t s round h mode p ≡ true
+pub is_enough_where : (t : Shape) (s : ℕ) (round : Round) (h : History) (mode : Mode) (p : ℕ) → IsEnough t s round p h mode → is_enough t s round h mode p ≡ true
 is_enough_where t s round h Quorum p enough = le-leb t.read (weight t (λ c. took s round.number c p h)) enough
 is_enough_where t s round h One p enough = enough
 
@@ -153,7 +146,7 @@ may_settles t h s values may =
 
 -- an answer that the settler may take is one of its open round
 may_current : (t : Shape) (h : History) (place : Place) (s round c p : ℕ) (items : List Item) → MayTake t h place s round c p items → is_current (open_round s h) round ≡ true
-may_current t h place s round c p items may = rw may.current_is (eqb_is may.current.number round (sym may.same))
+may_current t h place s round c p items may = rw may.current_is (eq-eqb may.current.number round (sym may.same))
 
 -- a reply that shows the settler's values is the one that it computes
 shows_reply : (h : History) (s : ℕ) (start : Start) (reply : Reply) → Shows (known_below s h) (settled s h) start reply → reply_to h s start ≡ Some reply

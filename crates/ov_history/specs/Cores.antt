@@ -9,7 +9,7 @@ use Rattle.ov_event.specs.declared.kind.Kind.{Kind}
 use Rattle.ov_event.specs.declared.letter.Letter.{Letter}
 use Rattle.ov_history.specs.Past.{History, stopped}
 use Rattle.ov_history.specs.Letters.{letter}
-use Rattle.ov_history.specs.May.{Setting, May}
+use Rattle.ov_history.specs.May.{Setting, May, MayBy}
 use Rattle.ov_history.specs.Gives.{Act, Take, gives, act_of}
 
 -- the entry that was given, where it is of a kind that passes
@@ -36,11 +36,11 @@ pub record Runs (t : Setting) (h : History) (actor : Actor) (has_stopped : Bool)
 -- What a call of a core for an act says of one history that the core stood for. `Stands` is what it is to stand for a history after
 -- which the actor is as the core has it, `f` tests the kinds of entries that the call makes, and `new` is the core after the call.
 pub record Steps {S : Type 0} (Stands : Setting → History → Actor → S → Type 0) (f : Kind → Bool) (t : Setting) (h : History) (actor : Actor) (act : Act) (answer : Option Entry) (new : S) : Type 0 where
-  -- the answer is what the actor gives for the act, where that is of such a kind
+  -- the call returns what the actor gives for the act, where that is of such a kind
   pub given : answer ≡ kept f (gives t h actor act)
   -- the core then stands for the history with that entry
   pub stands : Stands t (onto answer h) actor new
   -- the entry may follow, and it is the actor's
-  pub may : (e : Entry) → answer ≡ Some e → (May t h e) × (e.actor ≡ actor)
-  -- what may follow for that act is the answer: where there is none, nothing may
+  pub may : (e : Entry) → answer ≡ Some e → MayBy t h actor e
+  -- what may follow for that act is what it returns: where that is none, nothing may
   pub all : (kind : Kind) → f kind ≡ true → act_of kind ≡ act → May t h (record { actor = actor; kind = kind }) → answer ≡ Some (record { actor = actor; kind = kind })

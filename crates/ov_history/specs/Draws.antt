@@ -1,6 +1,5 @@
 -- What gateways begin: the versions that they draw, with their transactions.
-use Rattle.std.proofs.Common.{◌⊎◌}
-use Rattle.std.specs.Prelude.{◌≡◌, ℕ, ◌-◌, Bool, true, false, Option, Some, None, List, [], ◌∷◌, if◌then◌else◌}
+use Rattle.std.specs.Prelude.{ℕ, ◌-◌, Option, Some, None, List, if◌then◌else◌}
 use Rattle.ov_base.specs.Version.{time_of}
 use Rattle.ov_functor.specs.declared.part.Part.{Part}
 use Rattle.ov_session.specs.Events.{greatest}
@@ -32,11 +31,6 @@ drawn_in other = None
 abbrev pub draw_of : ℕ → Entry → Option Drawn
 draw_of g e = if is_gate g e.actor then drawn_in e.kind else None
 
--- the gateway began this
-abbrev pub Drew : ℕ → Drawn → History → Type 0
-Drew g drawn [] = ⊥
-Drew g drawn (e ∷ h) = (draw_of g e ≡ Some drawn) ⊎ Drew g drawn h
-
 -- ---- the clock of a gateway
 
 abbrev pub time_drawn : Option Drawn → ℕ
@@ -55,12 +49,3 @@ time_by g e = if is_gate g e.actor then time_in e.kind else 0
 -- which it published
 abbrev pub last : ℕ → History → ℕ
 last g h = greatest (time_by g) h
-
-abbrev pub moves : Kind → Bool
-moves (Began session seq start) = true
-moves (Published time vector) = true
-moves other = false
-
--- whether an entry may move a clock past the range of clocks: it begins a command, or publishes
-abbrev pub moves_clock : Entry → Bool
-moves_clock e = moves e.kind

@@ -185,7 +185,7 @@ abbrev pub gives : Setting → History → Actor → Act → Option Entry
 gives t h actor act =
     if is_in t.topology actor && not (stopped actor h) then option_map (λ kind. record { actor = actor; kind = kind }) (acts t h actor act) else None
 
--- ---- the act that an entry answers
+-- ---- the act to which an entry belongs
 
 -- a reading of the clock at which a command starts so
 abbrev pub clock_of : Start → ℕ

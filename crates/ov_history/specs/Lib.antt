@@ -10,6 +10,4 @@ pub mod Settlers
 pub mod May
 pub mod Gives
 pub mod Cores
-pub mod Final
 pub mod Serial
-pub mod Example

@@ -171,6 +171,10 @@ pub record May (t : Setting) (h : History) (e : Entry) : Type 0 where
   pub running : stopped e.actor h ≡ false
   pub guard : Guard t h e.actor e.kind
 
+-- the entry may follow, and it is the actor's
+abbrev pub MayBy : Setting → History → Actor → Entry → Type 0
+MayBy t h actor e = May t h e × (e.actor ≡ actor)
+
 -- a history is lawful where each entry may follow those before it
 abbrev pub Lawful : Setting → History → Type 0
 Lawful t [] = Unit {0}

@@ -45,6 +45,10 @@ same_actor (Gate g) b = is_gate g b
 same_actor (Node c p) b = is_node c p b
 same_actor (Settler s) b = is_settler s b
 
+-- whether some entry is the actor's
+abbrev pub acted : Actor → History → Bool
+acted a h = some (λ e. same_actor a e.actor) h
+
 -- ---- stopped actors
 
 -- whether the actor stops by such an entry

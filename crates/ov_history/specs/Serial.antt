@@ -1,4 +1,4 @@
--- The serial map of a history, and its windows.
+-- The serial map of a history, and its windows: for the crates ov_laws and ov_follow, which do not stand on each other.
 use Rattle.std.specs.Prelude.{◌≡◌, ◌==◌, ℕ, ◌≤◌, ◌<◌, Option, Some, None, List, [], ◌∷◌, if◌then◌else◌}
 use Rattle.ov_functor.specs.Execution.{Map}
 use Rattle.ov_functor.specs.Items.{items_of}

@@ -1,17 +1,13 @@
-//! Histories: what an actor is after its own entries, when an entry may follow, when a history is lawful, when a watermark is
-//! final, and the laws of lawful histories.
+//! Histories: what an actor is after its own entries, when an entry may follow, when a history is lawful, and what an actor gives for
+//! an act; with the few laws that every running actor and the judge stand on. The other laws are in the crate `ov_laws`.
 //!
-//! The promise to the layers above: the definitions of `specs/`, which every actor cites, and the laws, each the contract of a
-//! public function that does nothing.
+//! The promise to the layers above: what an actor gives for an act is exactly what may follow for it (`given_may_follow` and
+//! `may_is_given`), and what may follow still may after entries of other actors (`guard_stays`).
 //!
 //! Start with `specs/Past.antt`, the shape of histories, and `specs/May.antt`, which says when an entry may follow; then
-//! `specs/Final.antt` and `specs/Serial.antt`.
+//! `specs/Gives.antt`, and `specs/Cores.antt` for what a call of an actor says.
 #![tactic(auto)]
 
 mod laws;
 
-pub use laws::{
-    bounded_times, drawn_once, example_is_lawful, final_stays, final_watermark, given_may_follow,
-    growing_marks, guard_stays, guard_stays_after, harvest_window, may_is_given, past_is_lawful,
-    serial_fold_of_history,
-};
+pub use laws::{given_may_follow, guard_stays, guard_stays_after, may_is_given, past_is_lawful};

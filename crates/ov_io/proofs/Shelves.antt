@@ -129,7 +129,7 @@ agrees_at (Some t) bytes b e h = let q : t ≡ bytes = cc in h ∙ sym q
 pub longer_at : (told : Option (List ℕ)) (bytes : List ℕ) (limit : ℕ) → told ≡ Some bytes → limit < length bytes → LongerThan limit told
 longer_at told bytes limit e h = (bytes, agrees_at told bytes bytes e refl, h)
 
--- an answer whose only error is want of memory tells no fault
+-- an answer whose only error is out of memory reports no fault
 pub never_failed : (r : Result (Unit {0}) SinkError) → IfErr r (λ e. e ≡ sink.Memory) → r ≡ Err sink.Failed → ⊥
 never_failed (Ok u) memory e = absurd cc
 never_failed (Err e') memory e = absurd cc

@@ -1,6 +1,6 @@
 //! The outside of the program: files that are read, and a sink that texts are written to.
 //!
-//! The promise to the layer above: a fault is answered only where the object's own count of faults rose in
+//! The promise to the layer above: a fault is returned only where the object's own count of faults rose in
 //! that call, so code that is generic over [`Shelf`] and [`Sink`] cannot give up by itself; what a call
 //! read or wrote is stated wherever the object tells its content.
 //!
@@ -12,6 +12,7 @@
 mod files;
 mod memory;
 mod real;
+mod report;
 mod shelf;
 mod sink;
 mod sure;
@@ -19,6 +20,7 @@ mod sure;
 pub use files::NamedFile;
 pub use memory::{MemoryShelf, MemorySink};
 pub use real::{FileShelf, StdoutSink};
+pub use report::{ReportError, put_text};
 pub use shelf::{Shelf, ShelfError};
 pub use sink::{Sink, SinkError};
 pub use sure::{SureShelf, SureSink};

@@ -28,8 +28,8 @@ impl Model for MemorySink {
 }
 
 impl MemorySink {
-    /// A sink to which nothing was written, and whose puts with these numbers, from 1, are to fail. Takes
-    /// no memory.
+    /// A sink to which nothing was written, and whose puts with these numbers, from 1, are to fail. Does
+    /// not allocate.
     pub fn of(alloc: Global, failing: Vec<u64>) -> MemorySink
         ensures { result ≡ record { written = []; failing = failing.items; calls = 0; failed = 0 } }
     {
@@ -92,7 +92,7 @@ impl Model for MemoryShelf {
 }
 
 impl MemoryShelf {
-    /// A shelf of these files whose reads with these numbers, from 1, are to fail. Takes no memory.
+    /// A shelf of these files whose reads with these numbers, from 1, are to fail. Does not allocate.
     pub fn of(files: Vec<NamedFile>, failing: Vec<u64>) -> MemoryShelf
         ensures { result ≡ record { files = files.items; failing = failing.items; calls = 0; absent = 0 } }
     {

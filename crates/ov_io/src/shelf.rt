@@ -7,7 +7,7 @@ use std::alloc::Global;
 /// Why a file was not read.
 #[derive(Clone, Copy, Debug, PartialEq, Eq)]
 pub enum ShelfError {
-    /// Want of memory.
+    /// Out of memory.
     Memory,
     /// The read failed, and the shelf has counted it.
     Failed,
@@ -24,7 +24,7 @@ pub trait Shelf {
     ghost faults: { Self → List ℕ → ℕ };
 
     /// The bytes of a file, which are no more than the limit. `Failed` comes only where the count of that
-    /// name rose in this call, `TooLong` exactly where the content is longer than the limit; want of memory
+    /// name rose in this call, `TooLong` exactly where the content is longer than the limit; out of memory
     /// is free. No read changes what is told.
     fn read(&mut self, alloc: Global, name: &str, limit: u64) -> Result<Vec<u8>, ShelfError>
         ensures bytes { IfOk result (λ v. Agrees (told self.old name.now) v.items) }

@@ -7,7 +7,7 @@ use std::alloc::Global;
 /// Why bytes were not written whole.
 #[derive(Clone, Copy, Debug, PartialEq, Eq)]
 pub enum SinkError {
-    /// Want of memory.
+    /// Out of memory.
     Memory,
     /// The write failed, and the sink has counted it.
     Failed,
@@ -21,8 +21,8 @@ pub trait Sink {
     /// How often writes have failed. The count never falls, and stands still at `2^64 - 1`.
     ghost faults: { Self → ℕ };
 
-    /// Writes the bytes. After an error a front of them was written. `Failed` comes only where the count
-    /// rose in this call; want of memory is free.
+    /// Writes the bytes. After an error a prefix of them was written. `Failed` comes only where the count
+    /// rose in this call; out of memory may always come.
     fn put(&mut self, alloc: Global, bytes: &[u8]) -> Result<(), SinkError>
         ensures ok { OnOk result (Wrote (written self.old) (written self.new) bytes.now) }
         ensures err { OnErr result (WroteFront (written self.old) (written self.new) bytes.now) }

@@ -25,7 +25,7 @@ impl Model for SureShelf {
 }
 
 impl SureShelf {
-    /// The shelf of these files. Takes no memory.
+    /// The shelf of these files. Does not allocate.
     pub fn of(files: Vec<NamedFile>) -> SureShelf
         ensures { result ≡ files.items }
     {
@@ -59,7 +59,7 @@ fn bytes_of<'a>(files: &'a [NamedFile], name: &[u8]) -> &'a [u8]
     }
 }
 
-/// What was written, in memory, which contracts see as those bytes. No put fails but for want of memory.
+/// What was written, in memory, which contracts see as those bytes. The only error of a put is out of memory.
 #[derive(Drop)]
 pub struct SureSink {
     written: Vec<u8>,
@@ -74,7 +74,7 @@ impl Model for SureSink {
 }
 
 impl SureSink {
-    /// A sink to which nothing was written. Takes no memory.
+    /// A sink to which nothing was written. Does not allocate.
     pub fn new(alloc: Global) -> SureSink
         ensures { result ≡ [] }
     {

@@ -1,20 +1,13 @@
 -- When each partition gave answers enough.
-use Rattle.std.proofs.Common.{◌≡◌, ℕ, ◌<◌, Bool, true, IsTrue, ◌↔◌, sym, ◌∙◌}
-use Rattle.std.proofs.lemmas.Bool.{le-leb}
+use Rattle.std.proofs.Common.{◌≡◌, ℕ, ◌<◌, Bool, IsTrue, ◌↔◌, sym, ◌∙◌}
 use Rattle.ov_topology.specs.Shape.{Shape}
 use Rattle.ov_topology.specs.declared.mode.Mode.{Mode}
-use Rattle.ov_topology.specs.declared.mode.Mode.TheVariants.{Quorum, One}
 use Rattle.ov_history.proofs.Given.{all_below_at, enough_is}
-use Rattle.ov_history.proofs.Giving.{all_below_where}
-use Rattle.ov_history.specs.Counts.{all_below, weight}
+use Rattle.ov_history.proofs.Giving.{all_below_where, is_enough_where}
+use Rattle.ov_history.specs.Counts.{all_below}
 use Rattle.ov_history.specs.Gives.{is_enough}
 use Rattle.ov_history.specs.Past.{History}
-use Rattle.ov_history.specs.Settlers.{Round, took, IsEnough}
-
--- answers enough pass the test
-is_enough_where : (t : Shape) (s : ℕ) (round : Round) (h : History) (mode : Mode) (p : ℕ) → IsEnough t s round p h mode → is_enough t s round h mode p ≡ true
-is_enough_where t s round h Quorum p enough = le-leb t.read (weight t (λ c. took s round.number c p h)) enough
-is_enough_where t s round h One p enough = enough
+use Rattle.ov_history.specs.Settlers.{Round, IsEnough}
 
 -- the test of all partitions says whether each gave answers enough
 pub enough_each : (t : Shape) (s : ℕ) (round : Round) (h : History) (mode : Mode) (n : ℕ) (b : Bool) → b ≡ all_below (is_enough t s round h mode) n

@@ -24,7 +24,7 @@ use ov_topology::{Actor, Place, Topology};
 use std::alloc::Global;
 
 /// Whether an entry of this kind of the gateway may follow, apart from whether the topology has the gateway and it has not stopped.
-/// Only want of memory is an error.
+/// The only error is out of memory.
 pub fn gate_may(
     alloc: Global,
     topology: &Topology,

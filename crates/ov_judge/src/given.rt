@@ -19,9 +19,9 @@ use ov_session::Roster;
 use ov_topology::{Actor, Mode, Place, Topology};
 use std::alloc::Global;
 
-/// What the gateway gives that is to begin the next command of a session at a reading of its clock. An error is want of memory, or
+/// What the gateway gives that is to begin the next command of a session at a reading of its clock. An error is out of memory, or
 /// that the command's number is above the greatest `u32`, which it is not where the roster fits ([`Roster::fits`]). Here and in the
-/// other five calls the newest entry of the history stands first; in those only want of memory is an error.
+/// other five calls the newest entry of the history stands first; in those the only error is out of memory.
 pub fn give_begin(
     alloc: Global,
     topology: &Topology,

@@ -36,7 +36,7 @@ fn time_at(clock: u64, least: u64) -> u64
     clock.min(1 << 46).max(least)
 }
 
-/// What the gateway gives that is to begin the session's next command. An error is want of memory, or that the command's number is
+/// What the gateway gives that is to begin the session's next command. An error is out of memory, or that the command's number is
 /// above the greatest `u32`.
 pub fn begins(
     roster: &Roster,
@@ -108,7 +108,7 @@ fn version_at(time: u64, gate: u32) -> Version
     }
 }
 
-/// What the gateway gives that is to publish its marks. Only want of memory is an error.
+/// What the gateway gives that is to publish its marks. The only error is out of memory.
 pub fn publishes(
     alloc: Global,
     topology: &Topology,

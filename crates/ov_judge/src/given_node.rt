@@ -8,7 +8,7 @@ use ov_event::{Entry, Kind, Letter};
 use ov_topology::Place;
 use std::alloc::Global;
 
-/// What the node gives for a letter that is addressed to it. Only want of memory is an error.
+/// What the node gives for a letter that is addressed to it. The only error is out of memory.
 pub fn node_takes(
     alloc: Global,
     history: &[Entry],

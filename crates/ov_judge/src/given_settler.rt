@@ -30,7 +30,7 @@ pub fn asks(topology: &Topology, history: &[Entry], settler: u32, mode: Mode) ->
     }
 }
 
-/// What the settler gives that is to settle its open round. Only want of memory is an error.
+/// What the settler gives that is to settle its open round. The only error is out of memory.
 pub fn settles(
     alloc: Global,
     topology: &Topology,
@@ -52,7 +52,7 @@ pub fn settles(
     }
 }
 
-/// What the settler gives for a letter that is addressed to it. Only want of memory is an error.
+/// What the settler gives for a letter that is addressed to it. The only error is out of memory.
 pub fn settler_takes(
     alloc: Global,
     history: &[Entry],

@@ -10,7 +10,7 @@ use ov_functor::Item;
 use std::alloc::Global;
 use std::cmp::Ordering;
 
-/// What a node answers of a window. Only want of memory is an error.
+/// What a node answers of a window. The only error is out of memory.
 pub fn answer(
     alloc: Global,
     centre: u32,
@@ -49,7 +49,7 @@ fn is_inside(from: u64, below: u64, item: &Item) -> bool
     from <= item.version.number() && item.version.number() < below
 }
 
-/// The items that a node holds, by version and then key. Only want of memory is an error.
+/// The items that a node holds, by version and then key. The only error is out of memory.
 fn held(alloc: Global, centre: u32, part: u32, history: &[Entry]) -> Result<Vec<Item>, Memory>
     ensures { IfOk result (λ items. items.items ≡ held centre part history.now) }
 {
@@ -88,7 +88,7 @@ fn with_stored_in(alloc: Global, kind: &Kind, items: Vec<Item>) -> Result<Vec<It
     }
 }
 
-/// The items with these added one after another, each in its place. Only want of memory is an error.
+/// The items with these added one after another, each in its place. The only error is out of memory.
 pub fn all_added(alloc: Global, new: &[Item], items: Vec<Item>) -> Result<Vec<Item>, Memory>
     ensures { IfOk result (λ more. more.items ≡ all_added new.now items.items) }
 {

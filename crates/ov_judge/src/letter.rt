@@ -9,7 +9,7 @@ use ov_event::{Entry, Letter, letter_of};
 use ov_topology::{Actor, Mode, Place, Topology};
 use std::alloc::Global;
 
-/// The letter at a place. Only want of memory is an error.
+/// The letter at a place. The only error is out of memory.
 pub fn letter_at(
     alloc: Global,
     topology: &Topology,
@@ -24,7 +24,7 @@ pub fn letter_at(
     }
 }
 
-/// Whether the history has this letter at the place, addressed to the actor. Only want of memory is an error.
+/// Whether the history has this letter at the place, addressed to the actor. The only error is out of memory.
 pub fn takes(
     alloc: Global,
     topology: &Topology,

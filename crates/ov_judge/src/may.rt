@@ -13,8 +13,8 @@ use ov_session::Roster;
 use ov_topology::{Actor, Topology};
 use std::alloc::Global;
 
-/// Whether an entry may follow a history (docs/STORE.md, When an entry may follow). The newest entry of the history stands first. Only
-/// want of memory is an error. Slow: it takes time in a high power of the history's length.
+/// Whether an entry may follow a history (docs/STORE.md, When an entry may follow). The newest entry of the history stands first. The
+/// only error is out of memory. Slow: it takes time in a high power of the history's length.
 pub fn may_follow(
     alloc: Global,
     topology: &Topology,

@@ -11,8 +11,8 @@ use ov_functor::Item;
 use ov_topology::{Actor, Place, Topology};
 use std::alloc::Global;
 
-/// Whether an entry of this kind of the node may follow, apart from whether the topology has the node and it has not stopped. Only
-/// want of memory is an error.
+/// Whether an entry of this kind of the node may follow, apart from whether the topology has the node and it has not stopped. The
+/// only error is out of memory.
 pub fn node_may(
     alloc: Global,
     topology: &Topology,

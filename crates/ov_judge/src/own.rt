@@ -16,7 +16,7 @@ use ov_gossip::Marks;
 use ov_topology::Topology;
 use std::alloc::Global;
 
-/// The marks that a gateway publishes of its own versions at this time. Only want of memory is an error.
+/// The marks that a gateway publishes of its own versions at this time. The only error is out of memory.
 pub fn own_marks(
     alloc: Global,
     topology: &Topology,

@@ -43,7 +43,7 @@ fn acks(version: Version, centre: u32, part: u32, kind: &Kind) -> bool
     }
 }
 
-/// The votes of the centres that have acknowledged the version in the partition. Only want of memory is an error.
+/// The votes of the centres that have acknowledged the version in the partition. The only error is out of memory.
 pub fn ackers(
     alloc: Global,
     topology: &Topology,

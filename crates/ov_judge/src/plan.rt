@@ -16,7 +16,7 @@ use ov_event::{Entry, Kind, Valued};
 use ov_functor::{Functor, Item};
 use std::alloc::Global;
 
-/// The values of the plan of a round. Only want of memory is an error.
+/// The values of the plan of a round. The only error is out of memory.
 pub fn plan_values(
     alloc: Global,
     settler: u32,
@@ -32,7 +32,7 @@ pub fn plan_values(
     Ok(Sequence::from_vec(backwards(alloc, values.as_slice())?))
 }
 
-/// The values of the settler. Only want of memory is an error.
+/// The values of the settler. The only error is out of memory.
 pub fn values_of(alloc: Global, settler: u32, history: &[Entry]) -> Result<Vec<Valued>, Memory>
     ensures { IfOk result (λ values. values.items ≡ values_of settler history.now) }
 {

@@ -172,7 +172,7 @@ fn takes(round: u64, centre: u32, part: u32, kind: &Kind) -> bool
     }
 }
 
-/// Whether each partition gave answers enough to the round. Only want of memory is an error.
+/// Whether each partition gave answers enough to the round. The only error is out of memory.
 pub fn are_enough(
     alloc: Global,
     topology: &Topology,

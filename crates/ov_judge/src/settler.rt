@@ -17,7 +17,7 @@ use ov_topology::{Actor, Mode, Place, Topology};
 use std::alloc::Global;
 
 /// Whether an entry of this kind of the settler may follow, apart from whether the topology has the settler and it has not stopped.
-/// Only want of memory is an error.
+/// The only error is out of memory.
 pub fn settler_may(
     alloc: Global,
     topology: &Topology,

@@ -13,7 +13,7 @@ use ov_event::{Entry, Start, Valued};
 use ov_functor::{Move, Part, Reply, Shown};
 use std::alloc::Global;
 
-/// Whether a reply shows the values of the settler, as far as it has settled. Only want of memory is an error.
+/// Whether a reply shows the values of the settler, as far as it has settled. The only error is out of memory.
 pub fn shows(
     alloc: Global,
     settler: u32,
@@ -29,7 +29,7 @@ pub fn shows(
     }
 }
 
-/// The reply that the settler can compute to a command that starts so. Only want of memory is an error.
+/// The reply that the settler can compute to a command that starts so. The only error is out of memory.
 pub fn reply_to(
     alloc: Global,
     settler: u32,

@@ -1,7 +1,6 @@
-pub mod Lists
-pub mod Sorted
-pub mod WindowItems
-pub mod Settled
-pub mod Sent
-pub mod Shown
-pub mod SessionOrder
+pub mod History
+pub mod Watermarks
+pub mod Times
+pub mod Windows
+pub mod Values
+pub mod Sessions

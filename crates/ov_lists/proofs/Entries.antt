@@ -10,9 +10,12 @@ use Rattle.std.proofs.lemmas.Bool.{cases_Bool, both_ways, and_parts, and_from, l
 use Rattle.std.proofs.lemmas.Option.{cond_some}
 use Rattle.std.proofs.lemmas.Cmp.{then_total, on_total, nat_cmp_total, nat_list_cmp_total, ranked}
 use Rattle.std.proofs.lemmas.List.Recursion.{or_at, or_from_places}
-use Rattle.ov_base.specs.Key.{key_eq, key_eq-ties, key_eq-exact, key_eq-equiv}
+use Rattle.ov_base.specs.Key.{key_eq}
+use Rattle.ov_base.specs.Lemmas.{key_eq-ties, key_eq-exact}
 use Rattle.ov_lists.specs.Entries.{Entry, pair_cmp, is_before, stands_before, IsOrdered, is_at, has_pair, inserted, newer, is_below, latest_of}
-use Rattle.ov_lists.proofs.Orders.{before_trans, before_itself, rises_from, rises_put, rises_filter, ascends_from, Holds, rises_unique}
+use Rattle.ov_base.proofs.Keys.{key_eq-self}
+use Rattle.ov_base.proofs.Orders.{before_trans, before_itself}
+use Rattle.ov_lists.proofs.Orders.{rises_from, rises_put, rises_filter, ascends_from, Holds, rises_unique}
 
 -- ---- the order
 
@@ -77,11 +80,8 @@ at_pair key version e h =
     let parts = and_parts (key_eq e.key key) (eqb e.version version) h in
     (key_eq-exact e.key key parts.0, eqb-true e.version version parts.1)
 
-pub key_itself : (key : List ℕ) → key_eq key key ≡ true
-key_itself key = key_eq-equiv.refl key
-
 pub pair_at : {T : Type 0} (key : List ℕ) (version : ℕ) (e : Entry T) → e.key ≡ key → e.version ≡ version → is_at key version e ≡ true
-pair_at key version e k v = and_from (key_eq e.key key) (eqb e.version version) (rw k (key_itself key)) (eq-eqb e.version version v)
+pair_at key version e k v = and_from (key_eq e.key key) (eqb e.version version) (rw k (key_eq-self key)) (eq-eqb e.version version v)
 
 -- what stands before a pair is not of it
 pub before_not_at : {T : Type 0} (key : List ℕ) (version : ℕ) (e : Entry T) → is_before e.key e.version key version ≡ true → is_at key version e ≡ false

@@ -1,55 +1,17 @@
 -- Lists that ascend: an element at its place, those that a test leaves, and that such a list is determined by its elements.
 use Rattle.std.proofs.Common.{◌≡◌, ℕ, zero, suc, ◌<◌, ◌⊎◌, Bool, true, false, List, [], ◌∷◌, length, get_or, filter, refl, sym, ap, subst, ◌∙◌, arith, inl, inr}
-use Rattle.std.specs.Cmp.{IsTotalOrder}
 use Rattle.std.specs.List.{AllByRecursion}
-use Rattle.std.specs.Ordering.{is_lt}
-use Rattle.std.specs.declared.cmp.Ordering.{Ordering}
-use Rattle.std.specs.declared.cmp.Ordering.TheVariants.{Less, Equal, Greater}
 use Rattle.std.proofs.lemmas.Bool.{cases_Bool, both_ways}
-use Rattle.std.proofs.lemmas.Cmp.{tied_itself}
+use Rattle.ov_base.proofs.Lists.{all_weaker, all_at, all_filter}
 use Rattle.ov_lists.specs.Entries.{IsBeforeFirst, Ascends, put}
 
--- ---- what a total order says of `Less`
-
-less_from : (o : Ordering) → is_lt o ≡ true → o ≡ Less
-less_from Less h = refl
-less_from Equal h = absurd cc
-less_from Greater h = absurd cc
-
--- what stands before another that stands before a third stands before that
-pub before_trans : {K : Type 0} {R : K → K → Ordering} (o : IsTotalOrder R) (x y z : K) → is_lt (R x y) ≡ true → is_lt (R y z) ≡ true → is_lt (R x z) ≡ true
-before_trans {R = R} o x y z a b = ap is_lt (o.trans x y z (less_from (R x y) a) (less_from (R y z) b))
-
--- nothing stands before itself
-pub before_itself : {K : Type 0} {R : K → K → Ordering} (o : IsTotalOrder R) (x : K) → is_lt (R x x) ≡ false
-before_itself o x = ap is_lt (tied_itself o x)
-
--- ---- what holds of all of a list
-
--- what holds of all of a list holds of each
-pub all_weaker : {A : Type 0} (P Q : A → Type 0) → ((x : A) → P x → Q x) → (xs : List A) → AllByRecursion P xs → AllByRecursion Q xs
-all_weaker P Q more [] h = tt
-all_weaker P Q more (x ∷ xs) h = (more x h.0, all_weaker P Q more xs h.1)
-
-pub all_at : {A : Type 0} (P : A → Type 0) (xs : List A) (k : ℕ) (d : A) → k < length xs → AllByRecursion P xs → P (get_or xs k d)
-all_at P [] k d lt h = absurd (omega arith)
-all_at P (x ∷ xs) zero d lt h = h.0
-all_at P (x ∷ xs) (suc k) d lt h = all_at P xs k d (omega arith) h.1
-
+-- what holds of all of a list and of one more holds of the list with that
 pub all_put : {A : Type 0} (before : A → A → Bool) (P : A → Type 0) (new : A) → P new → (xs : List A) → AllByRecursion P xs → AllByRecursion P (put before new xs)
 all_put before P new here [] h = (here, tt)
 all_put before P new here (x ∷ xs) h =
     elim (cases_Bool (before x new)) [
       | inl less ↦ rw less (h.0, all_put before P new here xs h.1)
       | inr past ↦ rw past (here, h)
-    ]
-
-pub all_filter : {A : Type 0} (p : A → Bool) (P : A → Type 0) (xs : List A) → AllByRecursion P xs → AllByRecursion P (filter p xs)
-all_filter p P [] h = tt
-all_filter p P (x ∷ xs) h =
-    elim (cases_Bool (p x)) [
-      | inl yes_here ↦ rw yes_here (h.0, all_filter p P xs h.1)
-      | inr not_here ↦ rw not_here (all_filter p P xs h.1)
     ]
 
 -- ---- each before all that follow

@@ -2,11 +2,13 @@
 use Rattle.std.proofs.Common.{◌≡◌, ℕ, zero, suc, ◌+◌, ◌<◌, ◌≤◌, Bool, true, false, cond, ltb, leb, List, [], ◌∷◌, length, get_or, take, insert, filter, Some, None, refl, sym, ap, subst, ◌∙◌, arith, inl, inr}
 use Rattle.std.proofs.lemmas.Bool.{cases_Bool, both_ways, and_left, and_right, and_cases, le-ltb, leb-false, ltb-false, ltb-true, lt-leb, lt-ltb, false_from_ne_true, cases_lt, cases_order}
 use Rattle.std.proofs.lemmas.List.{get_or_default}
-use Rattle.ov_base.specs.Key.{key_eq, key_eq-exact}
+use Rattle.ov_base.specs.Key.{key_eq}
+use Rattle.ov_base.specs.Lemmas.{key_eq-exact}
+use Rattle.ov_base.proofs.Keys.{key_eq-self}
 use Rattle.ov_lists.specs.Entries.{Entry, put, is_before, stands_before, IsOrdered, is_at, has_pair, inserted, is_below, latest_of, is_inside}
 use Rattle.ov_lists.specs.Places.{AreBefore, IsPlace, AreOutside, Passes}
 use Rattle.ov_lists.proofs.Orders.{ascends_far}
-use Rattle.ov_lists.proofs.Entries.{pair_trans, entry_trans, entry_itself, entry_one_way, same_key_before, between, key_itself, at_pair, before_not_at, has_pair_at, lacks_pair, below_before, before_below, behind_not_below, latest_none, latest_some}
+use Rattle.ov_lists.proofs.Entries.{pair_trans, entry_trans, entry_itself, entry_one_way, same_key_before, between, at_pair, before_not_at, has_pair_at, lacks_pair, below_before, before_below, behind_not_below, latest_none, latest_some}
 
 -- what is read at a place is there whatever the default
 pub read_at : {T : Type 0} (entries : List (Entry T)) (m : ℕ) (e d : Entry T) → m < length entries → e ≡ get_or entries m e → get_or entries m d ≡ e
@@ -97,7 +99,7 @@ latest_here {T} key below entries place m e ordered h next is here =
           let up' : stands_before (get_or entries i d) e ≡ true = subst (λ (t : Entry T). stands_before (get_or entries i d) t ≡ true) (read_at entries m e d lt is) up in
           let k1 : (get_or entries i d).key ≡ key = key_eq-exact (get_or entries i d).key key (below_before key below (get_or entries i d) one).0 in
           let k2 : e.key ≡ key = key_eq-exact e.key key here in
-          let same : key_eq (get_or entries i d).key e.key ≡ true = rw (k1, k2) (key_itself key) in
+          let same : key_eq (get_or entries i d).key e.key ≡ true = rw (k1, k2) (key_eq-self key) in
           let less : ltb (get_or entries i d).version e.version ≡ true = sym (same_key_before (get_or entries i d).key (get_or entries i d).version e.key e.version same) ∙ up' in
           omega (arith, ltb-true (get_or entries i d).version e.version less))
       | inr other ↦ inl other
@@ -142,7 +144,7 @@ run_onward {T} entries place next number e lt is h less =
       | inl onward ↦ onward
       | inr back ↦ absurd (
           let no_more : is_before e.key e.version e.key number ≡ false = subst (λ (t : Entry T). is_before t.key t.version e.key number ≡ false) (sym is) (h.behind place e back lt) in
-          both_ways (is_before e.key e.version e.key number) no_more (same_key_before e.key e.version e.key number (key_itself e.key) ∙ lt-ltb e.version number less))
+          both_ways (is_before e.key e.version e.key number) no_more (same_key_before e.key e.version e.key number (key_eq-self e.key) ∙ lt-ltb e.version number less))
     ]
 
 -- from an entry below a window on, up to the window's start of that key
@@ -193,4 +195,4 @@ past_window {T} from below entries place e is h le =
 pub run_begun : {T : Type 0} (entries : List (Entry T)) (place number : ℕ) (e : Entry T) → IsOrdered entries → place < length entries → e ≡ get_or entries place e → e.version < number
     → AreBefore e.key number entries (place + 1)
 run_begun entries place number e ordered lt is less =
-    before_upto entries ordered place e e.key number lt is (same_key_before e.key e.version e.key number (key_itself e.key) ∙ lt-ltb e.version number less)
+    before_upto entries ordered place e e.key number lt is (same_key_before e.key e.version e.key number (key_eq-self e.key) ∙ lt-ltb e.version number less)

@@ -10,9 +10,11 @@ use Rattle.std.proofs.lemmas.Cmp.{then_total, on_total, nat_cmp_total, nat_list_
 use Rattle.std.proofs.lemmas.List.Elements.{All-from_recursion, recursion_from_All}
 use Rattle.std.proofs.lemmas.List.Sums.{sum_by-cons}
 use Rattle.std.proofs.lemmas.List.Sorted.{IsPermutation-sym, All-permutation, sum_by-IsPermutation}
-use Rattle.ov_base.specs.Key.{key_eq-ties, key_eq-exact}
+use Rattle.ov_base.specs.Lemmas.{key_eq-ties, key_eq-exact}
 use Rattle.ov_lists.specs.Entries.{Entry, stands_before, is_earlier, IsOrdered, is_at, is_inside, by_version, window_of, Ascends}
-use Rattle.ov_lists.proofs.Orders.{before_trans, before_itself, all_weaker, all_put, all_filter, Rises, rises_from, rises_put, rises_filter, ascends_from, Holds, all_holds, holds_each, holds_new, holds_old, rises_unique}
+use Rattle.ov_base.proofs.Lists.{all_weaker, all_filter}
+use Rattle.ov_base.proofs.Orders.{before_trans, before_itself}
+use Rattle.ov_lists.proofs.Orders.{all_put, Rises, rises_from, rises_put, rises_filter, ascends_from, Holds, all_holds, holds_each, holds_new, holds_old, rises_unique}
 use Rattle.ov_lists.proofs.Entries.{entry_trans, entry_itself, at_pair, pair_at, sides, then_equal, equal_from}
 
 -- ---- the order by version and then key

@@ -30,7 +30,7 @@ impl<T> Model for VersionLists<T> {
 }
 
 impl<T> VersionLists<T> {
-    /// No entries, and no room. Takes no memory.
+    /// No entries, and no room. Does not allocate.
     pub fn new(alloc: Global) -> VersionLists<T>
         ensures { result ≡ record { entries = []; spare = 0 } }
     {
@@ -53,7 +53,7 @@ impl<T> VersionLists<T> {
     }
 
     /// Adds an item at a key and version. False exactly where there is one already, and then nothing has changed; on an
-    /// error nothing has changed, and the item is dropped. Where room is reserved it takes no memory. The entries are in
+    /// error nothing has changed, and the item is dropped. Where room is reserved it does not allocate. The entries are in
     /// order, whatever comes.
     pub fn insert(&mut self, key: Key, version: Version, item: T) -> Result<bool, Memory>
     where
@@ -76,7 +76,7 @@ impl<T> VersionLists<T> {
         }
     }
 
-    /// The greatest version of the key below the number, and its item. None exactly where there is none. Takes no memory.
+    /// The greatest version of the key below the number, and its item. None exactly where there is none. Does not allocate.
     pub fn latest(&self, key: Key, below: u64) -> Option<(Version, &T)>
         ensures { option_map {U = ℕ × T} (λ p. (p.0, p.1.now)) result ≡ option_map (λ e. (e.version, e.item)) (latest_of key below self.now.entries) }
     {
@@ -92,7 +92,7 @@ impl<T> VersionLists<T> {
         }
     }
 
-    /// All entries from the one number on and below the other, by version and then key. Only want of memory is an error.
+    /// All entries from the one number on and below the other, by version and then key. The only error is out of memory.
     pub fn window(&self, from: u64, below: u64) -> Result<Vec<(Version, Key, &T)>, Memory>
         ensures { IfOk result (λ v. map shown v.items ≡ window_of from below self.now.entries) }
     {
@@ -107,7 +107,7 @@ impl<T> VersionLists<T> {
     }
 }
 
-/// Puts an entry at a place, where there is room for it, so that no memory is taken.
+/// Puts an entry at a place, where there is room for it, so that nothing is allocated.
 fn insert_within<T: Drop>(entries: &mut Vec<Versioned<T>>, place: usize, entry: Versioned<T>)
     requires room { vec_len entries.old < vec_capacity entries.old }
     requires within { place ≤ vec_len entries.old }

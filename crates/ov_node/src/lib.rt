@@ -1,6 +1,6 @@
 //! Nodes: the running state of a storage node, which holds items and answers the rounds of settlers.
 //!
-//! The promise to the layer above: over every history that a core stands for, each call answers with the entry that the node gives
+//! The promise to the layer above: over every history that a core stands for, each call returns the entry that the node gives
 //! there, and the core then stands for the longer history.
 //!
 //! Start with `specs/Node.antt`: what contracts see of a core, and which histories it stands for.

@@ -42,7 +42,7 @@ impl Model for NodeCore {
 }
 
 impl NodeCore {
-    /// A node that holds nothing. It stands for the empty history. Takes no memory.
+    /// A node that holds nothing. It stands for the empty history. Does not allocate.
     pub fn new(alloc: Global, centre: u32, part: u32) -> NodeCore
         ensures state { result ≡ record { centre = centre; part = part; items = []; stopped = false } }
         ensures stands { (t : Setting) → IsShape t.topology → is_in t.topology (Node centre part) ≡ true → IsNode t [] (Node centre part) result }
@@ -55,7 +55,7 @@ impl NodeCore {
         }
     }
 
-    /// Stores the items of a `Write` letter, those that it does not hold yet, and answers with its `Stored` entry. None exactly where
+    /// Stores the items of a `Write` letter, those that it does not hold yet, and returns its `Stored` entry. None exactly where
     /// no such entry may follow: the node has stopped, or the letter is not a `Write` to it. After None, and on an error, nothing has
     /// changed. The letter stands at the place in the history.
     pub fn store(&mut self, place: Place, letter: &Letter) -> Result<Option<Entry>, Memory>
@@ -83,7 +83,7 @@ impl NodeCore {
         })))
     }
 
-    /// Answers an `Ask` letter with its `Answered` entry, which has all that it holds in the window asked for. None exactly where no
+    /// Answers an `Ask` letter: returns its `Answered` entry, which has all that it holds in the window asked for. None exactly where no
     /// such entry may follow: the node has stopped, or the letter is not an `Ask` to it. Nothing changes. The letter stands at the
     /// place in the history. Takes a search for each key, and time for what it gives.
     pub fn answer(&mut self, place: Place, letter: &Letter) -> Result<Option<Entry>, Memory>
@@ -112,7 +112,7 @@ impl NodeCore {
         })))
     }
 
-    /// Stops the node. None exactly where it has stopped, and then nothing has changed. Takes no memory.
+    /// Stops the node. None exactly where it has stopped, and then nothing has changed. Does not allocate.
     pub fn stop(&mut self) -> Option<Entry>
         ensures steps { (t : Setting) (h : History) (actor : actors.Actor) → IsNode t h actor self.old → Steps IsNode stops t h actor Stop result self.new }
         ensures none { result ≡ None → self.new ≡ self.old }
@@ -125,7 +125,7 @@ impl NodeCore {
     }
 
     /// Whether an entry of this node may follow: exactly then it is true. `letter` is the history's letter at the entry's place, and
-    /// None where there is no such letter. Only want of memory is an error.
+    /// None where there is no such letter. The only error is out of memory.
     pub fn admits(&self, letter: Option<&Letter>, entry: &Entry) -> Result<bool, Memory>
         ensures { IfOk result (λ admits. (t : Setting) (h : History) (actor : actors.Actor) → IsNode t h actor self.now → entry.now.actor ≡ actor → option_map (λ one. one.now) letter.entry ≡ letter_for t.topology h (act_of entry.now.kind) → IsTrue admits ↔ May t h entry.now) }
     {
@@ -219,7 +219,7 @@ impl NodeCore {
         }
     }
 
-    /// Holds these items too, those that it does not hold yet. On an error nothing has changed. Takes memory for copies, and once for
+    /// Holds these items too, those that it does not hold yet. On an error nothing has changed. allocates copies, and once for
     /// all that come into the lists.
     fn hold(&mut self, items: &Sequence<Item>) -> Result<(), Memory>
         ensures ok { OnOk result (self.new ≡ record { centre = self.old.centre; part = self.old.part; items = all_added items.now self.old.items; stopped = self.old.stopped }) }
@@ -231,7 +231,7 @@ impl NodeCore {
         Ok(())
     }
 
-    /// The items that it holds in the window, by version and then key. Only want of memory is an error.
+    /// The items that it holds in the window, by version and then key. The only error is out of memory.
     fn inside(&self, from: u64, below: u64) -> Result<Sequence<Item>, Memory>
         ensures { IfOk result (λ items. items ≡ filter (is_inside from below) self.now.items) }
     {
@@ -241,7 +241,7 @@ impl NodeCore {
     }
 }
 
-/// Adds the items to lists that have room for them, so that no memory is taken.
+/// Adds the items to lists that have room for them, so that nothing is allocated.
 fn add_all(lists: &mut VersionLists<Functor>, items: Vec<Item>)
     requires { length items.items ≤ lists.old.spare }
     ensures { items_in lists.new.entries ≡ all_added items.items (items_in lists.old.entries) }
@@ -251,7 +251,7 @@ fn add_all(lists: &mut VersionLists<Functor>, items: Vec<Item>)
     }
 }
 
-/// Adds an item to lists that have room for it, so that no memory is taken.
+/// Adds an item to lists that have room for it, so that nothing is allocated.
 fn add(lists: &mut VersionLists<Functor>, item: Item)
     requires { 0 < lists.old.spare }
     ensures items { items_in lists.new.entries ≡ added item (items_in lists.old.entries) }

@@ -1,22 +1,20 @@
--- What the functions that add a line answer and leave, from what they call.
+-- What the functions that add a line return and leave, from what they call.
 use Rattle.std.proofs.Common.{◌≡◌, ℕ, ◌+◌, ◌<◌, Bool, true, false, cond, leb, List, [], ◌∷◌, ◌++◌, length, get_or, set, Option, Some, None, is_some, Result, Ok, refl, sym, ap, subst, ◌∙◌, arith, inl, inr}
-use Rattle.std.specs.List.{list_all, AllByRecursion}
 use Rattle.std.proofs.lemmas.Bool.Decides.{leb_tells}
 use Rattle.std.proofs.lemmas.List.{get_or_default}
 use Rattle.ov_functor.specs.declared.command.Command.{Command}
 use Rattle.ov_functor.specs.declared.command.Command.TheVariants as commands
 use Rattle.ov_functor.specs.declared.error.TxnError.{TxnError}
 use Rattle.ov_functor.specs.declared.part.Part.{Part}
-use Rattle.ov_functor.specs.declared.part.Part.TheVariants.{Put, Del, Add, Least, Greatest, Move, Get}
-use Rattle.ov_functor.specs.Transaction.{transaction_error, made_by, is_positive}
-use Rattle.ov_functor.specs.Words.{IsPart, IsParts}
+use Rattle.ov_functor.specs.Transaction.{transaction_error, made_by}
 use Rattle.ov_session.specs.declared.after.After as waits
 use Rattle.ov_session.specs.declared.planned.Planned.{Planned}
 use Rattle.ov_session.specs.declared.plan.SessionPlan.{SessionPlan}
 use Rattle.ov_session.specs.declared.roster.Roster.{Roster}
-use Rattle.ov_script.specs.Line.{IsLine, most_commands}
+use Rattle.ov_session.specs.Standing.{most_commands, most_sessions}
+use Rattle.ov_script.specs.Line.{IsLine}
 use Rattle.ov_script.specs.Sessions.{names_of, place_in, commands_in, order_of}
-use Rattle.ov_script.specs.Faults.{most_sessions, is_declared, session_fault, commands_fault, keys_fault, fault_of}
+use Rattle.ov_script.specs.Faults.{is_declared, session_fault, commands_fault, keys_fault, fault_of}
 use Rattle.ov_script.specs.Script.{Content}
 use Rattle.ov_script.specs.Written.{plan_at, lines_at, line_in, name_in, IsDeclared, with_line, MayStand, with_session, with_command, IsKept}
 use Rattle.ov_script.specs.declared.fault.ScriptFault.{ScriptFault}
@@ -129,24 +127,6 @@ module _ (gateways : ℕ) (names : List (List ℕ)) (roster : Roster) (waiting :
       declared
 
 -- ---- commands
-
--- parts in form have no move of less than 1
-part_positive : (part : Part) → IsPart part → is_positive part ≡ true
-part_positive (Put key amount) h = refl
-part_positive (Del key) h = refl
-part_positive (Add key amount) h = refl
-part_positive (Least key amount) h = refl
-part_positive (Greatest key amount) h = refl
-part_positive (Move from to amount) h = h.3
-part_positive (Get key) h = refl
-
-each_positive : (parts : List Part) → AllByRecursion IsPart parts → list_all is_positive parts ≡ true
-each_positive [] h = refl
-each_positive (part ∷ parts) h = rw (part_positive part h.0) (each_positive parts h.1)
-
-pub parts_positive : (parts : List Part) → IsParts parts → list_all is_positive parts ≡ true
-parts_positive [] h = absurd h
-parts_positive (part ∷ parts) h = each_positive (part ∷ parts) h
 
 -- a transaction that was made is of these parts, and they have no fault
 made_ok : (o : Option TxnError) (parts t : List Part) → ◌≡◌ {A = Result (List Part) TxnError} (Ok t) (made_by o parts) → (o ≡ None) × (t ≡ parts)

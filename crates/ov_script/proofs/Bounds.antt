@@ -3,12 +3,12 @@ use Rattle.std.proofs.Common.{◌≡◌, ℕ, ◌<◌, ◌≤◌, Bool, true, fa
 use Rattle.std.specs.List.{AllByRecursion}
 use Rattle.std.proofs.lemmas.Bool.Decides.{leb_tells}
 use Rattle.std.proofs.lemmas.List.{append-nil, length-map, length_push}
+use Rattle.ov_base.specs.Key.{repeats}
 use Rattle.ov_functor.specs.declared.error.TxnError.{TxnError}
 use Rattle.ov_functor.specs.Transaction.{transaction_error}
-use Rattle.ov_session.specs.Standing.{IsRoster}
-use Rattle.ov_script.specs.Line.{most_commands}
+use Rattle.ov_session.specs.Standing.{IsRoster, most_commands, most_sessions}
 use Rattle.ov_script.specs.Sessions.{sessions_of, names_of, plan_of, roster_of, command_at, order_of}
-use Rattle.ov_script.specs.Faults.{most_sessions, most_keys, is_declared, repeats, parts_fault, commands_fault, fault_of}
+use Rattle.ov_script.specs.Faults.{most_keys, is_declared, parts_fault, commands_fault, fault_of}
 use Rattle.ov_script.specs.Script.{Content, Follow, IsScript}
 use Rattle.ov_script.specs.declared.line.ScriptLine.{ScriptLine}
 use Rattle.ov_script.specs.declared.line.ScriptLine.TheVariants.{Session, Do, Snap, After}
@@ -81,7 +81,7 @@ bounded_all gateways before (line ∷ lines) follow h =
 pub script_bounded : (script : Content) → IsScript script → IsBounded script.lines
 script_bounded script h = bounded_all script.gateways [] script.lines h (record { sessions = omega arith; commands = omega arith })
 
-each_short : (lines : List ScriptLine) → IsBounded lines → (sessions : List (List ℕ × ℕ)) → AllByRecursion (λ plan. length plan.planned ≤ 4000) (map (plan_of lines) sessions)
+each_short : (lines : List ScriptLine) → IsBounded lines → (sessions : List (List ℕ × ℕ)) → AllByRecursion (λ plan. length plan.planned ≤ most_commands) (map (plan_of lines) sessions)
 each_short lines h [] = tt
 each_short lines h (session ∷ sessions) =
     (omega (arith, planned_count [] session.0 [] lines, counted_in_order session.0 lines, h.commands), each_short lines h sessions)

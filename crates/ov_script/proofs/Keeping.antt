@@ -9,9 +9,10 @@ use Rattle.ov_session.specs.declared.after.After as waits
 use Rattle.ov_session.specs.declared.planned.Planned.{Planned}
 use Rattle.ov_session.specs.declared.plan.SessionPlan.{SessionPlan}
 use Rattle.ov_session.specs.declared.roster.Roster.{Roster}
-use Rattle.ov_script.specs.Line.{IsLine, most_commands}
+use Rattle.ov_session.specs.Standing.{most_commands, most_sessions}
+use Rattle.ov_script.specs.Line.{IsLine}
 use Rattle.ov_script.specs.Sessions.{place_in}
-use Rattle.ov_script.specs.Faults.{most_sessions, fault_of}
+use Rattle.ov_script.specs.Faults.{fault_of}
 use Rattle.ov_script.specs.Script.{Follow}
 use Rattle.ov_script.specs.Written.{plan_at, name_at, command_at, command_line, line_at, lines_at, with_session, plan_more, with_command, IsWithin, Says, IsKept}
 use Rattle.ov_script.specs.declared.line.ScriptLine.{ScriptLine}

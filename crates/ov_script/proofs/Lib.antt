@@ -1,4 +1,3 @@
-pub mod Lines
 pub mod LineWords
 pub mod LineWordsAgain
 pub mod Steps

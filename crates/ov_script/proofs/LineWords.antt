@@ -1,37 +1,33 @@
 -- A line that is read is the one of its text.
-use Rattle.std.proofs.Common.{◌≡◌, ℕ, ◌-◌, ◌<◌, ◌≤◌, leb, eqb, ◌&&◌, List, [], ◌∷◌, ◌++◌, map, length, get_or, take, drop, Some, refl, sym, ap, subst, ◌∙◌, arith, codes, append_assoc}
+use Rattle.std.proofs.Common.{◌≡◌, ℕ, ◌-◌, ◌<◌, ◌≤◌, leb, eqb, ◌&&◌, List, [], ◌∷◌, ◌++◌, length, get_or, take, drop, Some, refl, sym, ap, subst, ◌∙◌, arith, codes, append_assoc}
 use Rattle.std.specs.List.{slice_split, flat_map, AllByRecursion}
 use Rattle.std.specs.Fmt.{decimal}
 use Rattle.std.specs.Str.{bytes_eq}
 use Rattle.std.proofs.lemmas.Bool.{and_parts, eqb-true, leb-true}
-use Rattle.std.proofs.lemmas.List.{take_all}
+use Rattle.std.proofs.lemmas.List.{take_all, map-id}
 use Rattle.std.proofs.lemmas.Option.{cond_some}
 use Rattle.ov_base.specs.Word.{itself}
 use Rattle.ov_base.specs.Split.{cut_at, joined}
 use Rattle.ov_base.specs.Number.{number_of}
 use Rattle.ov_base.specs.Key.{IsKey, key_of}
 use Rattle.ov_base.proofs.Readers.{bind_some, word_is, chosen, either}
-use Rattle.ov_base.proofs.Printing.{append_nil}
 use Rattle.ov_base.proofs.Numbers.{number_takes}
-use Rattle.ov_base.proofs.Splits.{cut_takes}
-use Rattle.ov_base.proofs.Joins.{joined_split, split_some}
+use Rattle.ov_base.proofs.Splits.{cut_takes, pair_takes}
+use Rattle.ov_base.proofs.Joins.{joined_split, joined_flat, split_some}
 use Rattle.ov_base.proofs.Keys.{key_takes}
 use Rattle.ov_base.proofs.Traverse.{all_of_takes}
 use Rattle.ov_functor.specs.Words.{parts_of}
 use Rattle.ov_functor.proofs.PartWords.{parts_takes}
-use Rattle.ov_topology.specs.Actor.{gate_of}
+use Rattle.ov_topology.specs.Actor.{IsGate, gate_of, gate_text}
 use Rattle.ov_topology.proofs.Actors.{gate_takes}
 use Rattle.ov_session.specs.Name.{IsName, name_of}
 use Rattle.ov_session.proofs.Names.{name_takes}
+use Rattle.ov_session.specs.Standing.{most_commands}
 use Rattle.ov_script.specs.declared.line.ScriptLine.{ScriptLine}
 use Rattle.ov_script.specs.declared.line.ScriptLine.TheVariants.{Session, Do, Snap, After}
-use Rattle.ov_script.specs.Line.{keys_text, line_text, IsKeys, IsLine, most_commands, seq_of, session_of, keys_of, do_of, snap_of, after_of, kind_of, named_of, first_of, line_of}
+use Rattle.ov_script.specs.Line.{keys_text, line_text, IsKeys, IsLine, seq_of, session_of, keys_of, do_of, snap_of, after_of, kind_of, named_of, first_of, line_of}
 
 -- ---- keys with a space between them
-
-joined_flat : (y : ℕ) (piece : List ℕ) (pieces : List (List ℕ)) → piece ++ flat_map (λ p. y ∷ p) pieces ≡ joined y (piece ∷ pieces)
-joined_flat y piece [] = append_nil piece
-joined_flat y piece (next ∷ pieces) = ap (λ (t : List ℕ). piece ++ y ∷ t) (joined_flat y next pieces)
 
 -- keys are the first key, and the others, each behind a space
 pub first_key : (keys : List (List ℕ)) (first : List ℕ) → 0 < length keys → first ≡ get_or keys 0 first → first ++ flat_map (λ key. 32 ∷ key) (take (length keys - 1) (drop 1 keys)) ≡ keys_text keys
@@ -40,10 +36,6 @@ first_key (key ∷ others) first some is =
     ap (λ (t : List (List ℕ)). first ++ flat_map (λ key. 32 ∷ key) t) (take_all (length (key ∷ others) - 1) others (omega arith))
     ∙ ap (λ (k : List ℕ). k ++ flat_map (λ key. 32 ∷ key) others) is
     ∙ joined_flat 32 key others
-
-keys_same : (keys : List (List ℕ)) → map itself keys ≡ keys
-keys_same [] = refl
-keys_same (key ∷ keys) = ap (λ (t : List (List ℕ)). key ∷ t) (keys_same keys)
 
 keys_some : (words : List (List ℕ)) (word : List ℕ) (others keys : List (List ℕ)) → words ≡ word ∷ others → words ≡ keys → AllByRecursion IsKey keys → IsKeys keys
 keys_some words word others [] e f h = absurd cc
@@ -54,7 +46,7 @@ pub keys_takes : (bytes : List ℕ) (keys : List (List ℕ)) → keys_of bytes �
 keys_takes bytes keys e =
     let words = slice_split (λ b. eqb b 32) bytes in
     let all = all_of_takes key_of IsKey itself key_takes words keys e in
-    let same : words ≡ keys = all.1 ∙ keys_same keys in
+    let same : words ≡ keys = all.1 ∙ map-id keys in
     let some = split_some (λ b. eqb b 32) bytes in
     (keys_some words some.0 some.1 keys some.2 same all.0, sym (joined_split (λ b. eqb b 32) 32 (λ x h. eqb-true x 32 h) bytes) ∙ ap (joined 32) same)
 
@@ -64,24 +56,18 @@ keys_takes bytes keys e =
 abbrev IsSpelled : List ℕ → ScriptLine → Type 0
 IsSpelled bytes line = IsLine line × (bytes ≡ line_text line)
 
-seq_takes : (bytes : List ℕ) (seq : ℕ) → seq_of bytes ≡ Some seq → (1 ≤ seq) × (seq ≤ most_commands) × (bytes ≡ decimal seq)
+seq_takes : (bytes : List ℕ) (seq : ℕ) → seq_of bytes ≡ Some seq → ((1 ≤ seq) × (seq ≤ most_commands)) × (bytes ≡ decimal seq)
 seq_takes bytes seq e =
     bind_some (number_of bytes) _ seq e λ n read last.
     let c = cond_some (leb 1 n && leb n most_commands) n seq last in
     let tests = and_parts (leb 1 n) (leb n most_commands) c.0 in
-    subst (λ (s : ℕ). (1 ≤ s) × (s ≤ most_commands) × (bytes ≡ decimal s)) c.1
-    (leb-true 1 n tests.0, leb-true n most_commands tests.1, (number_takes bytes n read).1)
+    subst (λ (s : ℕ). ((1 ≤ s) × (s ≤ most_commands)) × (bytes ≡ decimal s)) c.1
+    ((leb-true 1 n tests.0, leb-true n most_commands tests.1), (number_takes bytes n read).1)
 
 session_takes : (rest : List ℕ) (line : ScriptLine) → session_of rest ≡ Some line → IsSpelled (codes "session " ++ rest) line
 session_takes rest line e =
-    bind_some (cut_at 32 rest) _ line e λ words cut more.
-    bind_some (name_of words.0) _ line more λ name read others.
-    bind_some (gate_of words.1) _ line others λ gate there last.
-    let q : ◌≡◌ {A = ScriptLine} (Session name gate) line = cc in
-    let n = name_takes words.0 name read in
-    let g = gate_takes words.1 gate there in
-    let text : rest ≡ words.0 ++ 32 ∷ words.1 = cut_takes 32 rest words.0 words.1 cut in
-    subst (IsSpelled (codes "session " ++ rest)) q ((n.0, g.0), rw (text, n.1, g.1) refl)
+    let p = pair_takes 32 name_of gate_of Session IsName IsGate itself gate_text name_takes gate_takes rest line e in
+    subst (IsSpelled (codes "session " ++ rest)) p.made ((p.fits_one, p.fits_other), ap (λ (t : List ℕ). codes "session " ++ t) p.spelled)
 
 do_takes : (session rest : List ℕ) (line : ScriptLine) → IsName session → do_of session rest ≡ Some line → IsSpelled (session ++ codes " do " ++ rest) line
 do_takes session rest line named e =
@@ -99,15 +85,9 @@ snap_takes session rest line named e =
 
 after_takes : (session rest : List ℕ) (line : ScriptLine) → IsName session → after_of session rest ≡ Some line → IsSpelled (session ++ codes " after " ++ rest) line
 after_takes session rest line named e =
-    bind_some (cut_at 32 rest) _ line e λ words cut more.
-    bind_some (name_of words.0) _ line more λ other read others.
-    bind_some (seq_of words.1) _ line others λ seq there last.
-    let q : ◌≡◌ {A = ScriptLine} (After session other seq) line = cc in
-    let n = name_takes words.0 other read in
-    let s = seq_takes words.1 seq there in
-    let text : rest ≡ other ++ 32 ∷ decimal seq = cut_takes 32 rest words.0 words.1 cut ∙ rw (n.1, s.2) refl in
-    subst (IsSpelled (session ++ codes " after " ++ rest)) q
-    ((named, n.0, s.0, s.1), rw text (sym (append_assoc (session ++ codes " after ") other (32 ∷ decimal seq))))
+    let p = pair_takes 32 name_of seq_of (After session) IsName (λ seq. (1 ≤ seq) × (seq ≤ most_commands)) itself decimal name_takes seq_takes rest line e in
+    subst (IsSpelled (session ++ codes " after " ++ rest)) p.made
+    ((named, p.fits_one, p.fits_other.0, p.fits_other.1), ap (λ (t : List ℕ). session ++ codes " after " ++ t) p.spelled ∙ sym (append_assoc (session ++ codes " after ") p.one (32 ∷ decimal p.other)))
 
 -- ---- a line
 

@@ -1,28 +1,32 @@
 -- The text of a line is read as that line.
-use Rattle.std.proofs.Common.{◌≡◌, ℕ, ◌<◌, ◌≤◌, true, eqb, List, [], ◌∷◌, ◌++◌, length, Some, refl, ap, ◌∙◌, arith, codes, append_assoc}
+use Rattle.std.proofs.Common.{◌≡◌, ℕ, ◌<◌, ◌≤◌, true, eqb, List, [], ◌∷◌, ◌++◌, length, Some, refl, sym, ap, ◌∙◌, arith, codes, append_assoc}
 use Rattle.std.specs.List.{All, list_all, AllByRecursion}
 use Rattle.std.specs.Fmt.{decimal}
 use Rattle.std.proofs.lemmas.Bool.{and_parts, le-leb}
+use Rattle.std.proofs.lemmas.List.{map-id}
 use Rattle.std.proofs.lemmas.List.Elements.{recursion_from_All}
-use Rattle.ov_base.specs.Word.{Reads}
+use Rattle.ov_base.specs.Word.{Reads, itself}
 use Rattle.ov_base.specs.Split.{lacks, all_of}
 use Rattle.ov_base.specs.Key.{IsKey, key_of}
+use Rattle.ov_base.proofs.Lists.{all_weaker}
 use Rattle.ov_base.proofs.Readers.{reads_by_laws}
+use Rattle.ov_base.proofs.Traverse.{all_of_again}
 use Rattle.ov_base.proofs.Numbers.{number_again}
-use Rattle.ov_base.proofs.Splits.{cut_again, decimal_lacks, lacks_appended}
+use Rattle.ov_base.proofs.Splits.{cut_again, pair_again, decimal_lacks, lacks_appended}
 use Rattle.ov_base.proofs.Joins.{Lacks, HasFirst, lacks_each, lacks_joined, split_again}
 use Rattle.ov_base.proofs.Keys.{key_again, key_lacks}
 use Rattle.ov_functor.specs.declared.part.Part.{Part}
 use Rattle.ov_functor.specs.Transaction.{is_positive}
 use Rattle.ov_functor.specs.Words.{parts_text, IsPart, IsParts}
 use Rattle.ov_functor.proofs.PartWordsAgain.{parts_again, parts_lack, parts_positive}
-use Rattle.ov_topology.specs.Actor.{IsGate, gate_text}
+use Rattle.ov_topology.specs.Actor.{IsGate, gate_of, gate_text}
 use Rattle.ov_topology.proofs.Actors.{gate_again, gate_lacks}
-use Rattle.ov_session.specs.Name.{IsName}
+use Rattle.ov_session.specs.Name.{IsName, name_of}
 use Rattle.ov_session.proofs.Names.{name_again, name_lacks_space, name_lacks_newline, name_is_no_word}
+use Rattle.ov_session.specs.Standing.{most_commands}
 use Rattle.ov_script.specs.declared.line.ScriptLine.{ScriptLine}
 use Rattle.ov_script.specs.declared.line.ScriptLine.TheVariants.{Session, Do, Snap, After}
-use Rattle.ov_script.specs.Line.{keys_text, line_text, IsKeys, IsLine, CanAdd, HasSome, most_commands, seq_of, session_of, keys_of, after_of, kind_of, line_of}
+use Rattle.ov_script.specs.Line.{keys_text, line_text, IsKeys, IsLine, CanAdd, HasSome, seq_of, session_of, keys_of, after_of, kind_of, line_of}
 use Rattle.ov_script.proofs.LineWords.{regroup, line_takes}
 
 -- ---- keys
@@ -35,24 +39,17 @@ keys_each : (keys : List (List ℕ)) → IsKeys keys → AllByRecursion IsKey ke
 keys_each [] h = absurd h
 keys_each (key ∷ others) h = h
 
-each_key : (Holds : List ℕ → Type 0) → ((key : List ℕ) → IsKey key → Holds key) → (keys : List (List ℕ)) → AllByRecursion IsKey keys → AllByRecursion Holds keys
-each_key Holds one [] h = tt
-each_key Holds one (key ∷ keys) h = (one key h.0, each_key Holds one keys h.1)
-
-each_again : (keys : List (List ℕ)) → AllByRecursion IsKey keys → all_of key_of keys ≡ Some keys
-each_again [] h = refl
-each_again (key ∷ keys) h = rw (key_again key h.0, each_again keys h.1) refl
-
 -- the text of keys in form is read as those keys
 pub keys_again : (keys : List (List ℕ)) → IsKeys keys → keys_of (keys_text keys) ≡ Some keys
 keys_again keys h =
     let each = keys_each keys h in
-    let free = each_key (Lacks (λ b. eqb b 32)) (λ key k. lacks_each 32 key (key_lacks 32 key refl k)) keys each in
-    ap (all_of key_of) (split_again (λ b. eqb b 32) 32 refl keys (keys_first keys h) free) ∙ each_again keys each
+    let free = all_weaker IsKey (Lacks (λ b. eqb b 32)) (λ key k. lacks_each 32 key (key_lacks 32 key refl k)) keys each in
+    ap (all_of key_of) (split_again (λ b. eqb b 32) 32 refl keys (keys_first keys h) free)
+    ∙ ap (all_of key_of) (sym (map-id keys)) ∙ all_of_again key_of IsKey itself key_again keys each
 
 -- the text of keys has no line feed
 keys_lack : (keys : List (List ℕ)) → IsKeys keys → lacks 10 (keys_text keys) ≡ true
-keys_lack keys h = lacks_joined 10 32 refl keys (each_key (λ key. lacks 10 key ≡ true) (λ key k. key_lacks 10 key refl k) keys (keys_each keys h))
+keys_lack keys h = lacks_joined 10 32 refl keys (all_weaker IsKey (λ key. lacks 10 key ≡ true) (λ key k. key_lacks 10 key refl k) keys (keys_each keys h))
 
 -- ---- lines by their kinds
 
@@ -60,10 +57,12 @@ seq_again : (seq : ℕ) → 1 ≤ seq → seq ≤ most_commands → seq_of (deci
 seq_again seq low high = rw (number_again seq (omega arith), le-leb 1 seq low, le-leb seq most_commands high) refl
 
 session_again : (name : List ℕ) (gate : ℕ) → IsName name → IsGate gate → session_of (name ++ 32 ∷ gate_text gate) ≡ Some (Session name gate)
-session_again name gate n g = rw (cut_again 32 name (gate_text gate) (name_lacks_space name n), name_again name n, gate_again gate g) refl
+session_again name gate n g =
+    pair_again 32 name_of gate_of Session name (gate_text gate) name gate (name_lacks_space name n) (name_again name n) (gate_again gate g)
 
 after_again : (session other : List ℕ) (seq : ℕ) → IsName other → 1 ≤ seq → seq ≤ most_commands → after_of session (other ++ 32 ∷ decimal seq) ≡ Some (After session other seq)
-after_again session other seq n low high = rw (cut_again 32 other (decimal seq) (name_lacks_space other n), name_again other n, seq_again seq low high) refl
+after_again session other seq n low high =
+    pair_again 32 name_of seq_of (After session) other (decimal seq) other seq (name_lacks_space other n) (name_again other n) (seq_again seq low high)
 
 -- ---- a line
 

@@ -4,15 +4,15 @@ use Rattle.std.specs.Str.{bytes_eq}
 use Rattle.std.proofs.lemmas.Bool.{cases_Bool}
 use Rattle.std.proofs.lemmas.Slice.Eq.{bytes_eq-Decides}
 use Rattle.std.proofs.lemmas.List.{append-nil, map-append, length-map, get_or-map, length_push, map-id}
+use Rattle.ov_base.proofs.Lists.{map_same}
 use Rattle.ov_functor.specs.declared.command.Command.{Command}
 use Rattle.ov_functor.specs.declared.command.Command.TheVariants as commands
 use Rattle.ov_session.specs.declared.after.After as waits
 use Rattle.ov_session.specs.declared.planned.Planned.{Planned}
 use Rattle.ov_session.specs.declared.plan.SessionPlan.{SessionPlan}
 use Rattle.ov_session.specs.declared.roster.Roster.{Roster}
-use Rattle.ov_script.specs.Line.{most_commands}
+use Rattle.ov_session.specs.Standing.{most_commands, most_sessions}
 use Rattle.ov_script.specs.Sessions.{sessions_of, names_of, place_in, or_first, number_in, command_by, commands_in, plan_by, waiting_by, planned_of, waiting_of, plan_of, roster_of, command_at, order_by, order_of}
-use Rattle.ov_script.specs.Faults.{most_sessions}
 use Rattle.ov_script.specs.Written.{plan_at, command_line, with_session, plan_more, with_command, Apart, Says}
 use Rattle.ov_script.specs.declared.line.ScriptLine.{ScriptLine}
 use Rattle.ov_script.specs.declared.line.ScriptLine.TheVariants.{Session, After}
@@ -57,10 +57,6 @@ command_waiting names name waiting session (commands.Snap keys) = refl
 pub command_order : (lines : List ScriptLine) (session : List ℕ) (command : Command) → order_by lines (command_line session command) ≡ command_at lines session ∷ []
 command_order lines session (commands.Transact parts) = refl
 command_order lines session (commands.Snap keys) = refl
-
-map_same : {A X : Type 0} (f g : A → X) (items : List A) → ((item : A) → g item ≡ f item) → map g items ≡ map f items
-map_same f g [] same = refl
-map_same {A} {X} f g (item ∷ items) same = rw (same item) (ap (λ (t : List X). f item ∷ t) (map_same f g items same))
 
 -- ---- the sessions and what they wait for
 

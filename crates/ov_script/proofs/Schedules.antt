@@ -1,16 +1,13 @@
 -- A schedule that is read is in form and written so, and what is written is read again.
-use Rattle.std.proofs.Common.{◌≡◌, ℕ, ◌+◌, ◌≤◌, ltb, List, [], ◌∷◌, ◌++◌, length, Option, Some, None, Result, Ok, Err, refl, ◌∙◌, arith, inl, inr}
+use Rattle.std.proofs.Common.{◌≡◌, ℕ, ◌+◌, ◌≤◌, ltb, List, [], ◌∷◌, ◌++◌, length, Option, Some, None, Result, Ok, Err, refl, arith, inl, inr}
 use Rattle.std.specs.List.{AllByRecursion}
 use Rattle.std.proofs.lemmas.Bool.{cases_Bool, ltb-false, le-ltb}
-use Rattle.ov_script.specs.Lines.{Fault, at_line}
 use Rattle.ov_script.specs.Step.{IsStep, step_of, step_text}
-use Rattle.ov_script.specs.Schedule.{most_steps, IsSchedule, schedule_text, step_read, line_read, unended, schedule_of, Fails}
+use Rattle.ov_script.specs.Schedule.{most_steps, IsSchedule, schedule_text, step_read, line_read, unended, schedule_of}
 use Rattle.ov_script.specs.declared.step.Step.{Step}
 use Rattle.ov_script.specs.declared.fault.ScheduleFault.{ScheduleFault}
 use Rattle.ov_script.specs.declared.fault.ScheduleFault.TheVariants.{Lines}
-use Rattle.ov_script.specs.declared.fault.ScheduleError.{ScheduleError}
-use Rattle.ov_script.specs.declared.fault.ScheduleError.TheVariants as errors
-use Rattle.ov_script.proofs.Lines.{Follows, follows_each, follows_few, Adds, text_takes, text_again}
+use Rattle.ov_base.proofs.LineTexts.{Follows, follows_each, follows_few, Adds, text_takes, text_again}
 use Rattle.ov_script.proofs.Steps.{step_again, step_takes, step_lacks}
 
 -- a step on line k
@@ -53,12 +50,3 @@ fits_all before k (step ∷ steps) few h = ((omega arith, h.0), fits_all (before
 pub schedule_again : (steps : List Step) → IsSchedule steps → schedule_of (schedule_text steps) ≡ Ok steps
 schedule_again steps h =
     text_again line_read unended step_text Fits line_again (λ before k step fits. step_lacks step fits.1) steps (fits_all [] 1 steps (omega (arith, h.few)) h.each)
-
--- ---- the loop
-
--- a fault of a line is the first fault of the text from there on
-pub fails_then : {S : Type 0} (error : ScheduleError) (k : ℕ) (r : Result S ScheduleFault) (more : S → Result S (Fault ScheduleFault)) (read : Result S (Fault ScheduleFault))
-    → Fails error (at_line k r (λ after. Ok after)) → read ≡ at_line k r more → Fails error read
-fails_then errors.Memory k r more read h is = tt
-fails_then (errors.Line line fault) k (Ok after) more read h is = absurd cc
-fails_then (errors.Line line fault) k (Err other) more read h is = is ∙ h

@@ -1,16 +1,17 @@
 -- A script that is read is written so, and what is written is read again.
-use Rattle.std.proofs.Common.{◌≡◌, ℕ, ◌+◌, List, [], ◌∷◌, ◌++◌, Option, Some, None, Result, Ok, Err, refl, subst, ◌∙◌}
+use Rattle.std.proofs.Common.{◌≡◌, ℕ, ◌+◌, List, [], ◌∷◌, ◌++◌, eqb, Option, Some, None, Result, Ok, Err, refl, sym, ap, ◌∙◌}
 use Rattle.std.specs.Prelude.{IfOk}
+use Rattle.std.specs.List.{slice_split}
+use Rattle.ov_base.specs.Lines.{Fault, read_text, shown_as}
 use Rattle.ov_script.specs.Line.{IsLine, line_of, line_text}
-use Rattle.ov_script.specs.Lines.{Fault, at_line}
 use Rattle.ov_script.specs.Faults.{fault_of}
-use Rattle.ov_script.specs.Script.{Content, Follow, script_text, added, add_read, step, script_of, Fails, Gives}
+use Rattle.ov_script.specs.Reading.{line_taken, with_lines}
+use Rattle.ov_script.specs.Script.{Content, Follow, script_text, added, add_read, step, script_of, Gives}
 use Rattle.ov_script.specs.declared.line.ScriptLine.{ScriptLine}
 use Rattle.ov_script.specs.declared.fault.ScriptFault.{ScriptFault}
 use Rattle.ov_script.specs.declared.fault.ScriptFault.TheVariants.{Form}
 use Rattle.ov_script.specs.declared.fault.ScriptError.{ScriptError}
-use Rattle.ov_script.specs.declared.fault.ScriptError.TheVariants as errors
-use Rattle.ov_script.proofs.Lines.{Follows, Adds, text_takes, text_again}
+use Rattle.ov_base.proofs.LineTexts.{Follows, Adds, text_takes, text_again, read_shown}
 use Rattle.ov_script.proofs.LineWords.{line_takes}
 use Rattle.ov_script.proofs.LineWordsAgain.{line_again, line_lacks}
 
@@ -67,22 +68,28 @@ pub script_again : (gateways : ℕ) (lines : List ScriptLine) → Follow gateway
 script_again gateways lines h =
     text_again (step gateways) (λ k. Form) line_text (Fits gateways) (step_again gateways) (λ before k line fits. line_lacks line fits.0) lines (follows gateways [] 1 lines h)
 
--- ---- the loop
+-- ---- the script that is read line by line
 
--- a fault of a line is the first fault of the text from there on
-pub fails_then : {S : Type 0} (error : ScriptError) (k : ℕ) (r : Result S ScriptFault) (more : S → Result S (Fault ScriptFault)) (read : Result S (Fault ScriptFault))
-    → Fails error (at_line k r (λ after. Ok after)) → read ≡ at_line k r more → Fails error read
-fails_then errors.Memory k r more read h is = tt
-fails_then (errors.Line line fault) k (Ok after) more read h is = absurd cc
-fails_then (errors.Line line fault) k (Err other) more read h is = is ∙ h
+-- a text read into a script gives the script of the lines that it is read as
+pub read_as_lines : (gateways : ℕ) (bytes : List ℕ)
+    → read_text line_taken (λ k. Form) (record { gateways = gateways; lines = [] }) bytes ≡ shown_as (with_lines gateways) (script_of gateways bytes)
+read_as_lines gateways bytes = read_shown (with_lines gateways) (step gateways) line_taken (λ k. Form) (λ before k text. refl) [] 1 (slice_split (λ b. eqb b 10) bytes)
 
--- a line is read for as many gateways as the script has
-pub line_step : (own gateways : ℕ) (before after : List ScriptLine) (k : ℕ) (text : List ℕ) → own ≡ gateways → step own before k text ≡ Ok after → step gateways before k text ≡ Ok after
-line_step own gateways before after k text is e = subst (λ (g : ℕ). step g before k text ≡ Ok after) is e
+shown_ok : (gateways : ℕ) (read : Result (List ScriptLine) (Fault ScriptFault)) (script : Content) → shown_as (with_lines gateways) read ≡ Ok script → (read ≡ Ok script.lines) × (script.gateways ≡ gateways)
+shown_ok gateways (Ok lines) script e = let same : ◌≡◌ {A = Content} (with_lines gateways lines) script = cc in (ap (λ (c : Content). Ok c.lines) same, sym (ap (λ (c : Content). c.gateways) same))
+shown_ok gateways (Err fault) script e = absurd cc
 
-pub line_fails : (own gateways : ℕ) (error : ScriptError) (before : List ScriptLine) (k : ℕ) (text : List ℕ) → own ≡ gateways
-    → Fails error (at_line k (step own before k text) (λ after. Ok after)) → Fails error (at_line k (step gateways before k text) (λ after. Ok after))
-line_fails own gateways error before k text is h = subst (λ (g : ℕ). Fails error (at_line k (step g before k text) (λ after. Ok after))) is h
+shown_err : (gateways : ℕ) (read : Result (List ScriptLine) (Fault ScriptFault)) (fault : Fault ScriptFault) → shown_as (with_lines gateways) read ≡ Err fault → read ≡ Err fault
+shown_err gateways (Ok lines) fault e = absurd cc
+shown_err gateways (Err other) fault e = cc
 
-pub gives_then : (r : Result Content ScriptError) (own gateways : ℕ) (now read : Result (List ScriptLine) (Fault ScriptFault)) → own ≡ gateways → now ≡ read → Gives own r now → Gives gateways r read
-gives_then r own gateways now read is same h = subst (λ (g : ℕ). Gives g r read) is (subst (Gives own r) same h)
+-- a script that was read
+pub read_gives : (gateways : ℕ) (bytes : List ℕ) (script : Content) → read_text line_taken (λ k. Form) (record { gateways = gateways; lines = [] }) bytes ≡ Ok script
+    → Gives gateways (Ok script) (script_of gateways bytes)
+read_gives gateways bytes script e = shown_ok gateways (script_of gateways bytes) script (sym (read_as_lines gateways bytes) ∙ e)
+
+-- a line with a fault
+pub read_fails : (gateways : ℕ) (bytes : List ℕ) (line : ℕ) (fault : ScriptFault)
+    → read_text line_taken (λ k. Form) (record { gateways = gateways; lines = [] }) bytes ≡ Err (record { line = line; fault = fault })
+    → script_of gateways bytes ≡ Err (record { line = line; fault = fault })
+read_fails gateways bytes line fault e = shown_err gateways (script_of gateways bytes) (record { line = line; fault = fault }) (sym (read_as_lines gateways bytes) ∙ e)

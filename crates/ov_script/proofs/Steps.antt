@@ -2,39 +2,37 @@
 use Rattle.std.proofs.Common.{◌≡◌, ℕ, true, List, ◌∷◌, ◌++◌, Some, refl, ap, subst, ◌∙◌, arith, codes}
 use Rattle.std.specs.Fmt.{decimal}
 use Rattle.std.specs.Str.{bytes_eq}
+use Rattle.ov_base.specs.Word.{itself}
 use Rattle.ov_base.specs.Split.{cut_at, lacks}
-use Rattle.ov_base.specs.Number.{number_of}
+use Rattle.ov_base.specs.Number.{number_of, IsWord64}
 use Rattle.ov_base.proofs.Readers.{bind_some, word_is, chosen, either}
 use Rattle.ov_base.proofs.Numbers.{number_again, number_takes}
-use Rattle.ov_base.proofs.Splits.{cut_again, cut_takes, decimal_lacks, lacks_appended}
-use Rattle.ov_topology.specs.Actor.{actor_text, gate_text, settler_text, actor_of, gate_of, settler_of}
-use Rattle.ov_topology.specs.Place.{place_text, place_of}
-use Rattle.ov_topology.specs.declared.mode.Mode.{Mode}
-use Rattle.ov_topology.specs.declared.mode.Mode.TheVariants.{Quorum, One}
+use Rattle.ov_base.proofs.Splits.{cut_takes, pair_again, pair_takes, decimal_lacks, lacks_appended}
+use Rattle.ov_topology.specs.Actor.{IsActor, IsGate, IsSettler, actor_text, gate_text, settler_text, actor_of, gate_of, settler_of}
+use Rattle.ov_topology.specs.Mode.{IsMode, mode_text, mode_of}
+use Rattle.ov_topology.specs.Place.{IsPlace, place_text, place_of}
 use Rattle.ov_topology.proofs.Actors.{gate_again, gate_takes, gate_lacks, settler_again, settler_takes, settler_lacks, actor_again, actor_takes, actor_lacks}
+use Rattle.ov_topology.proofs.Modes.{mode_again, mode_takes, mode_lacks}
 use Rattle.ov_topology.proofs.Places.{place_again, place_takes, place_lacks}
-use Rattle.ov_session.specs.Name.{name_of}
+use Rattle.ov_session.specs.Name.{IsName, name_of}
 use Rattle.ov_session.proofs.Names.{name_again, name_takes, name_lacks_space, name_lacks_newline}
-use Rattle.ov_script.specs.Step.{IsStep, mode_text, step_text, mode_of, begin_of, take_of, publish_of, ask_of, settle_of, stop_of, verb_of, step_of}
+use Rattle.ov_script.specs.Step.{IsStep, step_text, begin_of, take_of, publish_of, ask_of, settle_of, stop_of, verb_of, step_of}
 use Rattle.ov_script.specs.declared.step.Step.{Step}
 use Rattle.ov_script.specs.declared.step.Step.TheVariants.{Begin, Take, Publish, Ask, Settle, Stop}
 
 -- ---- what is written is read again
 
-mode_again : (mode : Mode) → mode_of (mode_text mode) ≡ Some mode
-mode_again Quorum = refl
-mode_again One = refl
-
 -- the text of a step in form is read as that step
 pub step_again : (step : Step) → IsStep step → step_of (step_text step) ≡ Some step
 unfolding step_of
-step_again (Begin session clock) h = rw (cut_again 32 session (decimal clock) (name_lacks_space session h.0), name_again session h.0, number_again clock h.1) refl
+step_again (Begin session clock) h =
+    pair_again 32 name_of number_of Begin session (decimal clock) session clock (name_lacks_space session h.0) (name_again session h.0) (number_again clock h.1)
 step_again (Take actor place) h =
-    rw (cut_again 32 (actor_text actor) (place_text place) (actor_lacks 32 actor (omega arith) h.0), actor_again actor h.0, place_again place h.1) refl
+    pair_again 32 actor_of place_of Take (actor_text actor) (place_text place) actor place (actor_lacks 32 actor (omega arith) h.0) (actor_again actor h.0) (place_again place h.1)
 step_again (Publish gate clock) h =
-    rw (cut_again 32 (gate_text gate) (decimal clock) (gate_lacks 32 gate (omega arith) h.0), gate_again gate h.0, number_again clock h.1) refl
+    pair_again 32 gate_of number_of Publish (gate_text gate) (decimal clock) gate clock (gate_lacks 32 gate (omega arith) h.0) (gate_again gate h.0) (number_again clock h.1)
 step_again (Ask settler mode) h =
-    rw (cut_again 32 (settler_text settler) (mode_text mode) (settler_lacks 32 settler (omega arith) h), settler_again settler h, mode_again mode) refl
+    pair_again 32 settler_of mode_of Ask (settler_text settler) (mode_text mode) settler mode (settler_lacks 32 settler (omega arith) h) (settler_again settler h) (mode_again mode tt)
 step_again (Settle settler) h = rw (settler_again settler h) refl
 step_again (Stop actor) h = rw (actor_again actor h) refl
 
@@ -44,52 +42,25 @@ step_again (Stop actor) h = rw (actor_again actor h) refl
 abbrev Spells : List ℕ → List ℕ → Step → Type 0
 Spells verb rest step = IsStep step × (verb ++ 32 ∷ rest ≡ step_text step)
 
-mode_takes : (word : List ℕ) (mode : Mode) → mode_of word ≡ Some mode → word ≡ mode_text mode
-mode_takes word mode e =
-    either (bytes_eq word (codes "quorum")) (Some Quorum) _ mode e
-    (λ t h. let q : ◌≡◌ {A = Mode} Quorum mode = cc in subst (λ (m : Mode). word ≡ mode_text m) q (word_is word (codes "quorum") t))
-    λ h. let c = chosen (bytes_eq word (codes "one")) (Some One) mode h in
-    let q : ◌≡◌ {A = Mode} One mode = cc in
-    subst (λ (m : Mode). word ≡ mode_text m) q (word_is word (codes "one") c.0)
-
 begin_takes : (rest : List ℕ) (step : Step) → begin_of rest ≡ Some step → Spells (codes "begin") rest step
 begin_takes rest step e =
-    bind_some (cut_at 32 rest) _ step e λ words cut more.
-    bind_some (name_of words.0) _ step more λ session named more2.
-    bind_some (number_of words.1) _ step more2 λ clock read last.
-    let q : ◌≡◌ {A = Step} (Begin session clock) step = cc in
-    let s = name_takes words.0 session named in
-    let n = number_takes words.1 clock read in
-    subst (Spells (codes "begin") rest) q ((s.0, n.0), rw (cut_takes 32 rest words.0 words.1 cut, s.1, n.1) refl)
+    let p = pair_takes 32 name_of number_of Begin IsName IsWord64 itself decimal name_takes number_takes rest step e in
+    subst (Spells (codes "begin") rest) p.made ((p.fits_one, p.fits_other), ap (λ (t : List ℕ). codes "begin" ++ 32 ∷ t) p.spelled)
 
 take_takes : (rest : List ℕ) (step : Step) → take_of rest ≡ Some step → Spells (codes "take") rest step
 take_takes rest step e =
-    bind_some (cut_at 32 rest) _ step e λ words cut more.
-    bind_some (actor_of words.0) _ step more λ actor named more2.
-    bind_some (place_of words.1) _ step more2 λ place read last.
-    let q : ◌≡◌ {A = Step} (Take actor place) step = cc in
-    let a = actor_takes words.0 actor named in
-    let p = place_takes words.1 place read in
-    subst (Spells (codes "take") rest) q ((a.0, p.0), rw (cut_takes 32 rest words.0 words.1 cut, a.1, p.1) refl)
+    let p = pair_takes 32 actor_of place_of Take IsActor IsPlace actor_text place_text actor_takes place_takes rest step e in
+    subst (Spells (codes "take") rest) p.made ((p.fits_one, p.fits_other), ap (λ (t : List ℕ). codes "take" ++ 32 ∷ t) p.spelled)
 
 publish_takes : (rest : List ℕ) (step : Step) → publish_of rest ≡ Some step → Spells (codes "publish") rest step
 publish_takes rest step e =
-    bind_some (cut_at 32 rest) _ step e λ words cut more.
-    bind_some (gate_of words.0) _ step more λ gate named more2.
-    bind_some (number_of words.1) _ step more2 λ clock read last.
-    let q : ◌≡◌ {A = Step} (Publish gate clock) step = cc in
-    let g = gate_takes words.0 gate named in
-    let n = number_takes words.1 clock read in
-    subst (Spells (codes "publish") rest) q ((g.0, n.0), rw (cut_takes 32 rest words.0 words.1 cut, g.1, n.1) refl)
+    let p = pair_takes 32 gate_of number_of Publish IsGate IsWord64 gate_text decimal gate_takes number_takes rest step e in
+    subst (Spells (codes "publish") rest) p.made ((p.fits_one, p.fits_other), ap (λ (t : List ℕ). codes "publish" ++ 32 ∷ t) p.spelled)
 
 ask_takes : (rest : List ℕ) (step : Step) → ask_of rest ≡ Some step → Spells (codes "ask") rest step
 ask_takes rest step e =
-    bind_some (cut_at 32 rest) _ step e λ words cut more.
-    bind_some (settler_of words.0) _ step more λ settler named more2.
-    bind_some (mode_of words.1) _ step more2 λ mode read last.
-    let q : ◌≡◌ {A = Step} (Ask settler mode) step = cc in
-    let s = settler_takes words.0 settler named in
-    subst (Spells (codes "ask") rest) q (s.0, rw (cut_takes 32 rest words.0 words.1 cut, s.1, mode_takes words.1 mode read) refl)
+    let p = pair_takes 32 settler_of mode_of Ask IsSettler IsMode settler_text mode_text settler_takes mode_takes rest step e in
+    subst (Spells (codes "ask") rest) p.made (p.fits_one, ap (λ (t : List ℕ). codes "ask" ++ 32 ∷ t) p.spelled)
 
 settle_takes : (rest : List ℕ) (step : Step) → settle_of rest ≡ Some step → Spells (codes "settle") rest step
 settle_takes rest step e =
@@ -128,10 +99,6 @@ step_takes text step e =
     (s.0, cut_takes 32 text words.0 words.1 cut ∙ s.1)
 
 -- ---- no step has a line feed in it
-
-mode_lacks : (mode : Mode) → lacks 10 (mode_text mode) ≡ true
-mode_lacks Quorum = refl
-mode_lacks One = refl
 
 -- the text of a step in form has no line feed
 pub step_lacks : (step : Step) → IsStep step → lacks 10 (step_text step) ≡ true

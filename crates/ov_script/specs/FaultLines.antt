@@ -32,12 +32,12 @@ schedule_words schedules.Lines = codes "too many lines"
 abbrev pub fault_line : List ℕ → ℕ → List ℕ → List ℕ
 fault_line text line words = text ++ codes ": line " ++ decimal line ++ codes ": " ++ words
 
--- the line of a refusal of a script; want of memory has none
+-- the line of a refusal of a script; `Memory` has none
 abbrev pub script_fault_text : ScriptError → List ℕ
 script_fault_text script_errors.Memory = []
 script_fault_text (script_errors.Line line fault) = fault_line (codes "script") line (script_words fault)
 
--- the line of a refusal of a schedule; want of memory has none
+-- the line of a refusal of a schedule; `Memory` has none
 abbrev pub schedule_fault_text : ScheduleError → List ℕ
 schedule_fault_text schedule_errors.Memory = []
 schedule_fault_text (schedule_errors.Line line fault) = fault_line (codes "schedule") line (schedule_words fault)

@@ -1,21 +1,16 @@
 -- The faults of a line behind others: the tests of its kind in their order.
-use Rattle.std.specs.Prelude.{ℕ, Bool, false, not, ◌||◌, nat_le, nat_lt, List, [], ◌∷◌, length, Option, Some, None, is_some, if◌then◌else◌}
-use Rattle.std.specs.List.{list_any}
-use Rattle.ov_base.specs.Key.{key_eq}
+use Rattle.std.specs.Prelude.{ℕ, Bool, not, nat_le, nat_lt, List, [], ◌∷◌, length, Option, Some, None, is_some, if◌then◌else◌}
+use Rattle.ov_base.specs.Key.{repeats}
 use Rattle.ov_functor.specs.declared.error.TxnError.{TxnError}
 use Rattle.ov_functor.specs.declared.error.TxnError.TheVariants as txn
 use Rattle.ov_functor.specs.declared.part.Part.{Part}
 use Rattle.ov_functor.specs.Transaction.{transaction_error}
-use Rattle.ov_script.specs.Line.{most_commands}
+use Rattle.ov_session.specs.Standing.{most_commands, most_sessions}
 use Rattle.ov_script.specs.Sessions.{names_of, place_in, commands_in, order_of}
 use Rattle.ov_script.specs.declared.line.ScriptLine.{ScriptLine}
 use Rattle.ov_script.specs.declared.line.ScriptLine.TheVariants.{Session, Do, Snap, After}
 use Rattle.ov_script.specs.declared.fault.ScriptFault.{ScriptFault}
 use Rattle.ov_script.specs.declared.fault.ScriptFault.TheVariants.{Form, SessionTwice, NoGate, Sessions, NoSession, TooManyParts, TooManyKeys, SameKey, Commands, NoCommand}
-
--- the most sessions of a script
-abbrev pub most_sessions : ℕ
-most_sessions = 64
 
 -- the most keys of a snapshot
 abbrev pub most_keys : ℕ
@@ -24,11 +19,6 @@ most_keys = 8
 -- whether a session of this name is declared
 abbrev pub is_declared : List ℕ → List ScriptLine → Bool
 is_declared name lines = is_some (place_in name (names_of lines))
-
--- whether a key stands twice
-abbrev pub repeats : List (List ℕ) → Bool
-repeats [] = false
-repeats (key ∷ keys) = list_any (key_eq key) keys || repeats keys
 
 -- the script is full of commands
 abbrev pub commands_fault : List ScriptLine → Option ScriptFault

@@ -1,5 +1,4 @@
 pub mod Line
-pub mod Lines
 pub mod Sessions
 pub mod Faults
 pub mod Script

@@ -4,13 +4,14 @@ use Rattle.std.specs.List.{slice_split, list_all, AllByRecursion}
 use Rattle.std.specs.Fmt.{decimal}
 use Rattle.std.specs.Str.{bytes_eq}
 use Rattle.ov_base.specs.Word.{◌>>=◌}
-use Rattle.ov_base.specs.Split.{cut_at, joined, all_of}
+use Rattle.ov_base.specs.Split.{cut_at, pair_of, joined, all_of}
 use Rattle.ov_base.specs.Number.{number_of}
 use Rattle.ov_base.specs.Key.{IsKey, key_of}
 use Rattle.ov_functor.specs.Transaction.{is_positive}
 use Rattle.ov_functor.specs.Words.{parts_of, parts_text, IsParts}
 use Rattle.ov_topology.specs.Actor.{gate_of, gate_text, IsGate}
 use Rattle.ov_session.specs.Name.{IsName, name_of}
+use Rattle.ov_session.specs.Standing.{most_commands}
 use Rattle.ov_script.specs.declared.line.ScriptLine.{ScriptLine}
 use Rattle.ov_script.specs.declared.line.ScriptLine.TheVariants.{Session, Do, Snap, After}
 
@@ -27,10 +28,6 @@ line_text (Snap session keys) = session ++ codes " snap " ++ keys_text keys
 line_text (After session other seq) = session ++ codes " after " ++ other ++ 32 ∷ decimal seq
 
 -- ---- the lines that have a text
-
--- the greatest number of a command
-abbrev pub most_commands : ℕ
-most_commands = 4000
 
 -- there are keys, each in form
 abbrev pub IsKeys : List (List ℕ) → Type 0
@@ -52,11 +49,7 @@ seq_of bytes = number_of bytes >>= λ seq. if nat_le 1 seq && nat_le seq most_co
 
 -- reading `SESSION GATEWAY`
 abbrev pub session_of : List ℕ → Option ScriptLine
-session_of rest = do
-  words ← cut_at 32 rest
-  name ← name_of words.0
-  gate ← gate_of words.1
-  Some (Session name gate)
+session_of rest = pair_of 32 name_of gate_of Session rest
 
 -- reading one or more keys
 abbrev pub keys_of : List ℕ → Option (List (List ℕ))
@@ -72,11 +65,7 @@ snap_of session rest = keys_of rest >>= λ keys. Some (Snap session keys)
 
 -- reading `SESSION N`
 abbrev pub after_of : List ℕ → List ℕ → Option ScriptLine
-after_of session rest = do
-  words ← cut_at 32 rest
-  other ← name_of words.0
-  seq ← seq_of words.1
-  Some (After session other seq)
+after_of session rest = pair_of 32 name_of seq_of (After session) rest
 
 -- what stands behind the name of a session, by its first word
 abbrev pub kind_of : List ℕ → List ℕ → List ℕ → Option ScriptLine

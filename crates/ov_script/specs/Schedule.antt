@@ -1,7 +1,7 @@
 -- Schedules: which lists of steps are one, and how a text is read.
 use Rattle.std.specs.Prelude.{◌≡◌, ℕ, ◌≤◌, nat_lt, List, [], ◌∷◌, ◌++◌, length, Option, Some, None, Result, Ok, Err, if◌then◌else◌}
 use Rattle.std.specs.List.{AllByRecursion}
-use Rattle.ov_script.specs.Lines.{Fault, read_text, lines_text}
+use Rattle.ov_base.specs.Lines.{Fault, read_text, lines_text}
 use Rattle.ov_script.specs.Step.{IsStep, step_of, step_text}
 use Rattle.ov_script.specs.declared.step.Step.{Step}
 use Rattle.ov_script.specs.declared.fault.ScheduleFault.{ScheduleFault}
@@ -44,7 +44,7 @@ abbrev pub Fails : {S : Type 0} → ScheduleError → Result S (Fault ScheduleFa
 Fails errors.Memory read = Unit {0}
 Fails (errors.Line line fault) read = read ≡ Err (record { line = line; fault = fault })
 
--- what a call answered is what reading gives, unless memory ran out
+-- what a call returned is what reading gives, unless memory ran out
 abbrev pub Gives : Result (List Step) ScheduleError → Result (List Step) (Fault ScheduleFault) → Type 0
 Gives (Ok steps) read = read ≡ Ok steps
 Gives (Err error) read = Fails error read

@@ -1,7 +1,7 @@
 -- Scripts: what contracts see of one, which lines are one, and how a text is read.
 use Rattle.std.specs.Prelude.{◌≡◌, ℕ, List, [], ◌∷◌, ◌++◌, Option, Some, None, Result, Ok, Err}
 use Rattle.ov_script.specs.Line.{IsLine, line_of, line_text}
-use Rattle.ov_script.specs.Lines.{Fault, read_text, lines_text}
+use Rattle.ov_base.specs.Lines.{Fault, read_text, lines_text}
 use Rattle.ov_script.specs.Faults.{fault_of}
 use Rattle.ov_script.specs.declared.line.ScriptLine.{ScriptLine}
 use Rattle.ov_script.specs.declared.fault.ScriptFault.{ScriptFault}
@@ -51,7 +51,7 @@ abbrev pub Fails : {S : Type 0} → ScriptError → Result S (Fault ScriptFault)
 Fails errors.Memory read = Unit {0}
 Fails (errors.Line line fault) read = read ≡ Err (record { line = line; fault = fault })
 
--- what a call answered is what reading gives, unless memory ran out
+-- what a call returned is what reading gives, unless memory ran out
 abbrev pub Gives : ℕ → Result Content ScriptError → Result (List ScriptLine) (Fault ScriptFault) → Type 0
 Gives gateways (Ok script) read = (read ≡ Ok script.lines) × (script.gateways ≡ gateways)
 Gives gateways (Err error) read = Fails error read

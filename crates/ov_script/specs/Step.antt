@@ -3,22 +3,16 @@ use Rattle.std.specs.Prelude.{ℕ, List, ◌∷◌, ◌++◌, Option, Some, None
 use Rattle.std.specs.Fmt.{decimal}
 use Rattle.std.specs.Str.{bytes_eq}
 use Rattle.ov_base.specs.Word.{◌>>=◌}
-use Rattle.ov_base.specs.Split.{cut_at}
+use Rattle.ov_base.specs.Split.{cut_at, pair_of}
 use Rattle.ov_base.specs.Number.{number_of, IsWord64}
 use Rattle.ov_topology.specs.Actor.{IsActor, IsGate, IsSettler, actor_text, gate_text, settler_text, actor_of, gate_of, settler_of}
+use Rattle.ov_topology.specs.Mode.{mode_text, mode_of}
 use Rattle.ov_topology.specs.Place.{IsPlace, place_text, place_of}
-use Rattle.ov_topology.specs.declared.mode.Mode.{Mode}
-use Rattle.ov_topology.specs.declared.mode.Mode.TheVariants.{Quorum, One}
 use Rattle.ov_session.specs.Name.{IsName, name_of}
 use Rattle.ov_script.specs.declared.step.Step.{Step}
 use Rattle.ov_script.specs.declared.step.Step.TheVariants.{Begin, Take, Publish, Ask, Settle, Stop}
 
 -- ---- the text of a step, without its line feed
-
--- the word of a mode
-abbrev pub mode_text : Mode → List ℕ
-mode_text Quorum = codes "quorum"
-mode_text One = codes "one"
 
 -- the words of a step, with a space between them
 abbrev pub step_text : Step → List ℕ
@@ -42,41 +36,21 @@ IsStep (Stop actor) = IsActor actor
 
 -- ---- reading a step
 
--- reading `quorum` or `one`
-abbrev pub mode_of : List ℕ → Option Mode
-mode_of word = if bytes_eq word (codes "quorum") then Some Quorum else (if bytes_eq word (codes "one") then Some One else None)
-
 -- reading `SESSION CLOCK`
 abbrev pub begin_of : List ℕ → Option Step
-begin_of rest = do
-  words ← cut_at 32 rest
-  session ← name_of words.0
-  clock ← number_of words.1
-  Some (Begin session clock)
+begin_of rest = pair_of 32 name_of number_of Begin rest
 
 -- reading `ACTOR PLACE`
 abbrev pub take_of : List ℕ → Option Step
-take_of rest = do
-  words ← cut_at 32 rest
-  actor ← actor_of words.0
-  place ← place_of words.1
-  Some (Take actor place)
+take_of rest = pair_of 32 actor_of place_of Take rest
 
 -- reading `GATEWAY CLOCK`
 abbrev pub publish_of : List ℕ → Option Step
-publish_of rest = do
-  words ← cut_at 32 rest
-  gate ← gate_of words.0
-  clock ← number_of words.1
-  Some (Publish gate clock)
+publish_of rest = pair_of 32 gate_of number_of Publish rest
 
 -- reading `SETTLER quorum` or `SETTLER one`
 abbrev pub ask_of : List ℕ → Option Step
-ask_of rest = do
-  words ← cut_at 32 rest
-  settler ← settler_of words.0
-  mode ← mode_of words.1
-  Some (Ask settler mode)
+ask_of rest = pair_of 32 settler_of mode_of Ask rest
 
 -- reading SETTLER
 abbrev pub settle_of : List ℕ → Option Step

@@ -7,9 +7,10 @@ use Rattle.ov_session.specs.declared.after.After as waits
 use Rattle.ov_session.specs.declared.planned.Planned.{Planned}
 use Rattle.ov_session.specs.declared.plan.SessionPlan.{SessionPlan}
 use Rattle.ov_session.specs.declared.roster.Roster.{Roster}
-use Rattle.ov_script.specs.Line.{IsLine, line_text, most_commands}
+use Rattle.ov_session.specs.Standing.{most_commands, most_sessions}
+use Rattle.ov_script.specs.Line.{IsLine, line_text}
 use Rattle.ov_script.specs.Sessions.{names_of, place_in, planned_of, waiting_of, roster_of, order_of}
-use Rattle.ov_script.specs.Faults.{most_sessions, fault_of}
+use Rattle.ov_script.specs.Faults.{fault_of}
 use Rattle.ov_script.specs.Script.{Content, IsScript, IsFaultOf}
 use Rattle.ov_base.specs.declared.memory.Memory.{Memory}
 use Rattle.ov_script.specs.declared.fault.AddError.{AddError}
@@ -80,13 +81,13 @@ abbrev pub Inserts : {T E : Type 0} → Result T E → Content → Content → S
 Inserts (Ok done) old new line = new ≡ with_line old line
 Inserts (Err error) old new line = new ≡ old
 
--- what a call that adds a line answers and leaves: the line has no fault and stands last, or a refusal names its fault
+-- what a call that adds a line returns and leaves: the line has no fault and stands last, or a refusal names its fault
 -- and nothing has changed
 abbrev pub Adds : {T : Type 0} → Result T AddError → Content → Content → ScriptLine → Type 0
 Adds (Ok done) old new line = (fault_of old.gateways old.lines line ≡ None) × (new ≡ with_line old line)
 Adds (Err error) old new line = IsFaultOf error (fault_of old.gateways old.lines line) × (new ≡ old)
 
--- what a call that adds answers, by the call that took the line in
+-- what a call that adds returns, by the call that took the line in
 abbrev pub answered : {T : Type 0} → Result T Memory → Result T AddError
 answered (Ok done) = Ok done
 answered (Err memory) = Err adds.Memory

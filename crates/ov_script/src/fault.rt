@@ -108,8 +108,8 @@ impl ScheduleFault {
 }
 
 impl ScriptError {
-    /// Writes the fault line without its line feed (docs/FORMATS.md, Fault lines); want of memory has the
-    /// empty line. On an error a front of it was written.
+    /// Writes the fault line without its line feed (docs/FORMATS.md, Fault lines); `Memory` has the
+    /// empty line. On an error a prefix of it was written.
     pub fn print_to(&self, alloc: Global, text: &mut Vec<u8>) -> Result<(), Memory>
         ensures { Printed result text.old.items text.new.items (script_fault_text self.now) }
     {
@@ -123,8 +123,8 @@ impl ScriptError {
 }
 
 impl ScheduleError {
-    /// Writes the fault line without its line feed (docs/FORMATS.md, Fault lines); want of memory has the
-    /// empty line. On an error a front of it was written.
+    /// Writes the fault line without its line feed (docs/FORMATS.md, Fault lines); `Memory` has the
+    /// empty line. On an error a prefix of it was written.
     pub fn print_to(&self, alloc: Global, text: &mut Vec<u8>) -> Result<(), Memory>
         ensures { Printed result text.old.items text.new.items (schedule_fault_text self.now) }
     {

@@ -1,10 +1,8 @@
 //! What is added to the parts of a script by one line.
 ghost use Rattle.std.specs.Prelude.{◌≡◌, ◌<◌, ◌≤◌, ◌+◌, ◌++◌, ◌∷◌, [], List, Some, None, length, get_or, slice_set, vec_len, vec_capacity, OnOk, OnErr, IfOk, IfSome, IfNone};
-ghost use Rattle.std.specs.List.{list_any};
-ghost use Rattle.ov_base.specs.Key.{key_eq};
+ghost use Rattle.ov_session.specs.Standing.{most_commands};
 ghost use Rattle.ov_script.specs.Faults as spec;
 ghost use Rattle.ov_script.specs.declared.line.ScriptLine.{ScriptLine};
-ghost use Rattle.ov_script.specs.Line.{most_commands};
 ghost use Rattle.ov_script.specs.Sessions.{place_in};
 ghost use Rattle.ov_script.specs.Written.{answered, plan_at, with_command};
 ghost use Rattle.indexmap.specs.IndexSet.{spare};
@@ -12,7 +10,7 @@ ghost use Rattle.indexmap.specs.IndexSet.{spare};
 use crate::fault::{AddError, ScriptFault};
 use crate::written::Written;
 use indexmap::IndexSet;
-use ov_base::{Key, Memory, Plain, Sequence, push_within};
+use ov_base::{Key, Memory, Plain, Sequence, push_within, repeats};
 use ov_functor::{Command, TxnError};
 use ov_session::{After, Planned, Roster, SessionName};
 use std::alloc::Global;
@@ -20,7 +18,7 @@ use std::alloc::Global;
 /// The most keys of a snapshot.
 const MOST_KEYS: usize = 8;
 
-/// Want of memory is all that may go wrong with a line that has no fault.
+/// All that may go wrong with a line that has no fault is that memory runs out.
 pub(crate) fn or_memory(inserted: Result<(), Memory>) -> Result<(), AddError>
     ensures { result ≡ answered inserted }
 {
@@ -53,25 +51,6 @@ pub(crate) fn keys_fault(keys: &[Key]) -> Option<ScriptFault>
     } else {
         None
     }
-}
-
-fn repeats(keys: &[Key]) -> bool
-    ensures { result ≡ spec.repeats keys.now }
-{
-    let mut rest = keys;
-    while let [first, others @ ..] = rest {
-        if contains(others, first) {
-            return true;
-        }
-        rest = others;
-    }
-    false
-}
-
-fn contains(keys: &[Key], key: &Key) -> bool
-    ensures { result ≡ list_any (key_eq key.now) keys.now }
-{
-    keys.iter().any(|other| key == other)
 }
 
 /// The place of the session of this name.
@@ -173,7 +152,7 @@ pub(crate) fn push_after(
     waiting[at].push(after)
 }
 
-/// A copy of the items. Only want of memory is an error.
+/// A copy of the items. The only error is out of memory.
 pub(crate) fn copied(
     alloc: Global,
     items: &[Sequence<After>],

@@ -8,17 +8,15 @@ ghost use Rattle.ov_base.specs.Amount.{IsAmount};
 ghost use Rattle.ov_functor.specs.Transaction.{is_positive};
 ghost use Rattle.ov_functor.specs.Words.{IsPart};
 ghost use Rattle.ov_session.specs.Name.{IsName};
+ghost use Rattle.ov_session.specs.Standing.{most_commands};
 ghost use Rattle.ov_script.specs.Line as spec;
 ghost use Rattle.ov_script.specs.Line.{CanAdd, HasSome, IsLine, line_of, line_text};
 
 use ov_base::{Amount, Key, Memory, Sequence, parse_number, parts_at, split_at_byte};
 use ov_functor::{Part, parse_parts};
-use ov_session::SessionName;
+use ov_session::{MOST_COMMANDS, SessionName};
 use ov_topology::parse_gate;
 use std::alloc::Global;
-
-/// The greatest number of a command.
-const MOST_COMMANDS: u32 = 4000;
 
 /// The greatest number of a gateway.
 const LAST_GATE: u32 = 7;
@@ -63,8 +61,8 @@ impl ScriptLine {
         }
     }
 
-    /// The line that the bytes spell, without its line feed. None exactly where they spell none; only want of
-    /// memory is an error.
+    /// The line that the bytes spell, without its line feed. None exactly where they spell none; the only
+    /// error is out of memory.
     pub fn parse(alloc: Global, text: &[u8]) -> Result<Option<ScriptLine>, Memory>
         ensures exact { IfOk result (λ line. line ≡ line_of text.now) }
         ensures reads { IfOk result (λ line. Reads line_text IsLine text.now line) }
@@ -99,7 +97,7 @@ fn is_positive(part: &Part) -> bool
 
 /// Whether a command may have the number.
 fn is_number(seq: u32) -> bool
-    ensures { IsTrue result ↔ (1 ≤ seq) × (seq ≤ spec.most_commands) }
+    ensures { IsTrue result ↔ (1 ≤ seq) × (seq ≤ most_commands) }
 {
     1 <= seq && seq <= MOST_COMMANDS
 }

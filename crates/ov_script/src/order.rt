@@ -1,5 +1,5 @@
 //! Where a command stands.
-ghost use Rattle.ov_base.specs.Tests.{exact_tests};
+ghost use Rattle.ov_base.specs.Lemmas.{exact_tests};
 
 use ov_base::{Memory, Plain};
 

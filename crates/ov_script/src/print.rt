@@ -13,7 +13,7 @@ use ov_session::SessionName;
 use ov_topology::print_gate;
 use std::alloc::Global;
 
-/// Writes the line of a session at the end, without its line feed. On an error a front of it was written.
+/// Writes the line of a session at the end, without its line feed. On an error a prefix of it was written.
 pub(crate) fn print_session(
     alloc: Global,
     name: &SessionName,
@@ -29,7 +29,7 @@ pub(crate) fn print_session(
     print_gate(alloc, gate, text)
 }
 
-/// Writes the line of a transaction at the end, without its line feed. On an error a front of it was written.
+/// Writes the line of a transaction at the end, without its line feed. On an error a prefix of it was written.
 pub(crate) fn print_do(
     alloc: Global,
     session: &SessionName,
@@ -42,7 +42,7 @@ pub(crate) fn print_do(
     print_parts(alloc, parts, text)
 }
 
-/// Writes the line of a snapshot at the end, without its line feed. On an error a front of it was written.
+/// Writes the line of a snapshot at the end, without its line feed. On an error a prefix of it was written.
 pub(crate) fn print_snap(
     session: &SessionName,
     keys: &[Key],
@@ -54,7 +54,7 @@ pub(crate) fn print_snap(
     print_keys(keys, text)
 }
 
-/// Writes the line of a wait at the end, without its line feed. On an error a front of it was written.
+/// Writes the line of a wait at the end, without its line feed. On an error a prefix of it was written.
 pub(crate) fn print_after(
     alloc: Global,
     session: &SessionName,

@@ -1,15 +1,14 @@
 //! Schedules: lists of steps.
-ghost use Rattle.std.specs.Prelude.{◌≡◌, ◌∷◌, ◌++◌, [], ◌==◌, length, map, if◌then◌else◌, IfOk, IfErr, OnOk, Ok, Err};
+ghost use Rattle.std.specs.Prelude.{◌≡◌, ◌∷◌, ◌++◌, [], IfOk, IfErr, OnOk, Ok};
 ghost use Rattle.std.specs.List.{AllByRecursion};
 ghost use Rattle.ov_base.specs.Word.{Printed};
-ghost use Rattle.ov_script.specs.Lines.{at_line, lines_text, read_from};
 ghost use Rattle.ov_script.specs.Step.{IsStep, step_text};
 ghost use Rattle.ov_script.specs.Schedule as spec;
-ghost use Rattle.ov_script.specs.Schedule.{Fails, Gives, IsSchedule, line_read, schedule_of, schedule_text};
+ghost use Rattle.ov_script.specs.Schedule.{Gives, IsSchedule, line_read, schedule_of, schedule_text};
 
 use crate::fault::{ScheduleError, ScheduleFault};
 use crate::step::Step;
-use ov_base::{Memory, Plain, Sequence, parts_at};
+use ov_base::{FromLines, LineError, Memory, Plain, Sequence, read_lines};
 use std::alloc::Global;
 use std::marker::Model;
 
@@ -54,7 +53,7 @@ impl Schedule {
         self.steps.as_slice()
     }
 
-    /// Writes the text that was read at the end. It is read back as the same schedule. On an error a front of
+    /// Writes the text that was read at the end. It is read back as the same schedule. On an error a prefix of
     /// it was written.
     pub fn print_to(&self, alloc: Global, text: &mut Vec<u8>) -> Result<(), Memory>
         ensures text { Printed result text.old.items text.new.items (schedule_text self.now) }
@@ -63,7 +62,7 @@ impl Schedule {
         print_steps(alloc, self.steps.as_slice(), text)
     }
 
-    /// A copy, which equals its source. Only want of memory is an error.
+    /// A copy, which equals its source. The only error is out of memory.
     pub fn copy(&self) -> Result<Schedule, Memory>
         ensures { IfOk result (λ copied. copied ≡ self.now) }
     {
@@ -76,39 +75,13 @@ impl Schedule {
 fn steps_read(alloc: Global, bytes: &[u8]) -> Result<Sequence<Step>, ScheduleError>
     ensures { Gives result (schedule_of bytes.now) }
 {
-    let pieces = match parts_at(alloc, bytes, b'\n') {
-        Ok(pieces) => pieces,
-        Err(_) => return Err(ScheduleError::Memory),
+    let empty = Steps {
+        steps: Sequence::new(alloc),
     };
-    pieces_read(alloc, pieces.as_slice())
-}
-
-/// The steps of the pieces round the line feeds.
-fn pieces_read(alloc: Global, pieces: &[&[u8]]) -> Result<Sequence<Step>, ScheduleError>
-    ensures { Gives result (read_from line_read spec.unended [] 1 (map (λ piece. piece.now) pieces.now)) }
-{
-    let mut steps = Sequence::new(alloc);
-    for (index, piece) in pieces.iter().enumerate() {
-        let line = index as u64 + 1;
-        if index + 1 == pieces.len() {
-            return ended(steps, line, piece);
-        }
-        match add_line(&mut steps, line, piece) {
-            Ok(()) => {}
-            Err(error) => return Err(error),
-        }
-    }
-    Ok(steps)
-}
-
-/// The steps, where nothing stands behind the last line feed.
-fn ended(steps: Sequence<Step>, line: u64, last: &[u8]) -> Result<Sequence<Step>, ScheduleError>
-    ensures { Gives result (if length last.now == 0 then Ok steps else Err (record { line = line; fault = spec.unended line })) }
-{
-    if last.is_empty() {
-        Ok(steps)
-    } else {
-        Err(fault_at(line, unended(line)))
+    match read_lines(alloc, empty, bytes) {
+        Ok(read) => Ok(read.steps),
+        Err(LineError::Memory) => Err(ScheduleError::Memory),
+        Err(LineError::Line { line, fault }) => Err(fault_at(line, fault)),
     }
 }
 
@@ -118,38 +91,65 @@ fn fault_at(line: u64, fault: ScheduleFault) -> ScheduleError
     ScheduleError::Line { line, fault }
 }
 
-/// The fault of a line without its line feed.
-fn unended(line: u64) -> ScheduleFault
-    ensures { result ≡ spec.unended line }
-{
-    if MOST_STEPS < line {
-        ScheduleFault::Lines
-    } else {
-        ScheduleFault::Form
+/// The steps of the lines that were read. Contracts see the list.
+#[derive(Drop)]
+pub struct Steps {
+    steps: Sequence<Step>,
+}
+
+impl Model for Steps {
+    ghost use Rattle.std.specs.Prelude.{List};
+    ghost use Rattle.ov_script.specs.declared.step.Step.{Step};
+
+    ghost Value = { List Step };
+
+    ghost view = { λ s. s.steps };
+}
+
+impl FromLines for Steps {
+    type Fault = ScheduleFault;
+
+    ghost taken = { line_read };
+
+    ghost unended = { spec.unended };
+
+    fn take_line(
+        &mut self,
+        _alloc: Global,
+        line: u64,
+        text: &[u8],
+    ) -> Result<(), LineError<ScheduleFault>> {
+        if line > MOST_STEPS {
+            return Err(LineError::Line {
+                line,
+                fault: ScheduleFault::Lines,
+            });
+        }
+        match Step::parse(text) {
+            Some(step) => push_step(&mut self.steps, step),
+            None => Err(LineError::Line {
+                line,
+                fault: ScheduleFault::Form,
+            }),
+        }
+    }
+
+    fn unended(line: u64) -> ScheduleFault {
+        if MOST_STEPS < line {
+            ScheduleFault::Lines
+        } else {
+            ScheduleFault::Form
+        }
     }
 }
 
-/// Adds the step of these bytes, which are this line.
-fn add_line(steps: &mut Sequence<Step>, line: u64, text: &[u8]) -> Result<(), ScheduleError>
-    ensures added { OnOk result (line_read steps.old line text.now ≡ Ok steps.new) }
-    ensures fault { IfErr result (λ error. Fails error (at_line line (line_read steps.old line text.now) (λ after. Ok after))) }
-{
-    if line > MOST_STEPS {
-        return Err(fault_at(line, ScheduleFault::Lines));
-    }
-    match Step::parse(text) {
-        Some(step) => push_step(steps, step),
-        None => Err(fault_at(line, ScheduleFault::Form)),
-    }
-}
-
-fn push_step(steps: &mut Sequence<Step>, step: Step) -> Result<(), ScheduleError>
+fn push_step(steps: &mut Sequence<Step>, step: Step) -> Result<(), LineError<ScheduleFault>>
     ensures added { OnOk result (steps.new ≡ steps.old ++ step ∷ []) }
-    ensures memory { IfErr result (λ error. error ≡ ScheduleError.Memory) }
+    ensures memory { IfErr result (λ error. error ≡ LineError.Memory) }
 {
     match steps.push(step) {
         Ok(()) => Ok(()),
-        Err(_) => Err(ScheduleError::Memory),
+        Err(_) => Err(LineError::Memory),
     }
 }
 

@@ -1,8 +1,8 @@
 //! Scripts: the lines, and what they say.
 ghost use Rattle.std.specs.Prelude.{◌≡◌, ◌<◌, ◌++◌, ◌∷◌, [], length, OnOk, OnErr, IfOk, IfErr, None, Ok};
 ghost use Rattle.ov_base.specs.Word.{Printed};
-ghost use Rattle.ov_session.specs.Standing.{IsRoster};
-ghost use Rattle.ov_script.specs.Line.{CanAdd, IsLine, most_commands};
+ghost use Rattle.ov_session.specs.Standing.{IsRoster, most_commands};
+ghost use Rattle.ov_script.specs.Line.{CanAdd, IsLine};
 ghost use Rattle.ov_script.specs.Sessions.{names_of, place_in, commands_in, roster_of, order_of};
 ghost use Rattle.ov_script.specs.Faults as spec;
 ghost use Rattle.ov_script.specs.Faults.{fault_of};
@@ -22,15 +22,9 @@ use crate::written::{Written, print_lines};
 use indexmap::IndexSet;
 use ov_base::{Key, Memory, Plain, Sequence, push_within};
 use ov_functor::{Command, Part, Transaction};
-use ov_session::{After, Roster, SessionName, SessionPlan};
+use ov_session::{After, MOST_COMMANDS, MOST_SESSIONS, Roster, SessionName, SessionPlan};
 use std::alloc::Global;
 use std::marker::Model;
-
-/// The most sessions of a script.
-const MOST_SESSIONS: usize = 64;
-
-/// The most commands of a script.
-const MOST_COMMANDS: usize = 4000;
 
 /// A script: client sessions and what each is to do, as a list of lines of which none has a fault behind
 /// those before it; at most 64 sessions and 4,000 commands (docs/STORE.md, Scripts; docs/FORMATS.md,
@@ -61,7 +55,7 @@ impl Model for Script {
 }
 
 impl Script {
-    /// The script without a line, where there are so many gateways. Takes no memory.
+    /// The script without a line, where there are so many gateways. Does not allocate.
     pub fn empty(alloc: Global, gateways: u32) -> Script
         ensures { result ≡ record { gateways = gateways; lines = [] } }
     {
@@ -114,7 +108,7 @@ impl Script {
         self.order.as_slice()
     }
 
-    /// The number of the session of this name. None exactly where there is none. Takes no memory.
+    /// The number of the session of this name. None exactly where there is none. Does not allocate.
     pub fn session(&self, name: &SessionName) -> Option<u32>
         ensures { result ≡ place_in name.now (names_of self.now.lines) }
     {
@@ -132,7 +126,7 @@ impl Script {
     }
 
     /// Writes the text at the end: the one that was read, or that of the lines that were added. It is read
-    /// back as the same script. On an error a front of it was written.
+    /// back as the same script. On an error a prefix of it was written.
     pub fn print_to(&self, alloc: Global, text: &mut Vec<u8>) -> Result<(), Memory>
         ensures text { Printed result text.old.items text.new.items (script_text self.now.lines) }
         ensures again { script_of self.now.gateways (script_text self.now.lines) ≡ Ok self.now.lines }
@@ -140,7 +134,7 @@ impl Script {
         print_lines(alloc, &self.roster, self.written.as_slice(), text)
     }
 
-    /// A copy, which equals its source. Only want of memory is an error.
+    /// A copy, which equals its source. The only error is out of memory.
     pub fn copy(&self) -> Result<Script, Memory>
         ensures { IfOk result (λ s. s ≡ self.now) }
     {
@@ -233,7 +227,7 @@ impl Script {
         requires full { fault_of self.old.gateways self.old.lines (line_in self.old.lines at command) ≡ spec.commands_fault self.old.lines }
         ensures { Adds result self.old self.new (line_in self.old.lines at command) }
     {
-        if self.order.len() >= MOST_COMMANDS {
+        if self.order.len() >= MOST_COMMANDS as usize {
             Err(AddError::Fault(ScriptFault::Commands))
         } else {
             or_memory(self.insert_command(at, command))

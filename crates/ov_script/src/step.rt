@@ -1,11 +1,12 @@
 //! The lines of a schedule.
 ghost use Rattle.std.specs.Prelude.{◌≡◌, ◌++◌, ◌∷◌, codes, decimal};
-ghost use Rattle.ov_base.specs.Tests.{exact_tests};
+ghost use Rattle.ov_base.specs.Lemmas.{exact_tests};
 ghost use Rattle.ov_base.specs.Word.{Reads, Printed};
 ghost use Rattle.ov_topology.specs.Actor.{IsActor, IsGate, IsSettler, actor_text, gate_text, settler_text};
+ghost use Rattle.ov_topology.specs.Mode.{mode_text};
 ghost use Rattle.ov_topology.specs.Place.{IsPlace, place_text};
 ghost use Rattle.ov_script.specs.Step as spec;
-ghost use Rattle.ov_script.specs.Step.{IsStep, step_of, step_text, mode_of, mode_text};
+ghost use Rattle.ov_script.specs.Step.{IsStep, step_of, step_text};
 
 use ov_base::{Memory, Plain, parse_number, print_number, split_at_byte};
 use ov_session::SessionName;
@@ -30,8 +31,8 @@ pub enum Step {
 }
 
 impl Step {
-    /// The step that the bytes spell, without its line feed. None exactly where they spell none. Takes no
-    /// memory.
+    /// The step that the bytes spell, without its line feed. None exactly where they spell none. Does not
+    /// allocate.
     pub fn parse(text: &[u8]) -> Option<Step>
         ensures exact { result ≡ step_of text.now }
         ensures reads { Reads step_text IsStep text.now result }
@@ -39,7 +40,7 @@ impl Step {
         step_read(text)
     }
 
-    /// Writes the one spelling at the end, without a line feed. On an error a front of it was written.
+    /// Writes the one spelling at the end, without a line feed. On an error a prefix of it was written.
     pub fn print_to(&self, alloc: Global, text: &mut Vec<u8>) -> Result<(), Memory>
         requires { IsStep self.now }
         ensures { Printed result text.old.items text.new.items (step_text self.now) }
@@ -116,20 +117,8 @@ fn ask_read(rest: &[u8]) -> Option<Step>
 {
     let (settler, mode) = split_at_byte(rest, b' ')?;
     let settler = parse_settler(settler)?;
-    let mode = mode_read(mode)?;
+    let mode = Mode::parse(mode)?;
     Some(Step::Ask { settler, mode })
-}
-
-fn mode_read(word: &[u8]) -> Option<Mode>
-    ensures { result ≡ mode_of word.now }
-{
-    if word == b"quorum".as_slice() {
-        Some(Mode::Quorum)
-    } else if word == b"one".as_slice() {
-        Some(Mode::One)
-    } else {
-        None
-    }
 }
 
 fn settle_read(rest: &[u8]) -> Option<Step>
@@ -186,17 +175,7 @@ fn print_ask(alloc: Global, settler: u32, mode: Mode, text: &mut Vec<u8>) -> Res
     text.extend_from_slice(b"ask ")?;
     print_settler(alloc, settler, text)?;
     text.push(b' ')?;
-    text.extend_from_slice(mode_word(mode))?;
-    Ok(())
-}
-
-fn mode_word(mode: Mode) -> &'static [u8]
-    ensures { result.now ≡ mode_text mode }
-{
-    match mode {
-        Mode::Quorum => b"quorum",
-        Mode::One => b"one",
-    }
+    mode.print_to(text)
 }
 
 fn print_settle(alloc: Global, settler: u32, text: &mut Vec<u8>) -> Result<(), Memory>

@@ -22,7 +22,7 @@ pub enum Written {
     After { session: u32, other: u32, seq: u32 },
 }
 
-/// Writes lines at the end, each with its line feed. On an error a front of them was written.
+/// Writes lines at the end, each with its line feed. On an error a prefix of them was written.
 pub(crate) fn print_lines(
     alloc: Global,
     roster: &Roster,

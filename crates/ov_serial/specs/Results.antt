@@ -1,18 +1,16 @@
 -- What the serial executor gives, in terms of the serial fold.
-use Rattle.std.specs.Prelude.{ℕ, Bool, true, not, ◌&&◌, ◌==◌, suc, zero, nat_lt, ℤ, ◌^◌, List, [], ◌∷◌, ◌++◌, map, Option, Some, None, if◌then◌else◌}
+use Rattle.std.specs.Prelude.{ℕ, Bool, true, not, ◌&&◌, ◌==◌, suc, zero, nat_lt, ℤ, ◌^◌, List, [], ◌∷◌, ◌++◌, map, if◌then◌else◌}
 use Rattle.std.specs.Borrow.{Bor}
 use Rattle.std.specs.List.{list_any}
-use Rattle.std.specs.BTreeMap.{BTreeMap, get}
-use Rattle.std.specs.Cmp.Lexicographic.{slice_cmp}
-use Rattle.std.specs.Ordering.{nat_cmp}
+use Rattle.std.specs.BTreeMap.{BTreeMap}
 use Rattle.ov_base.specs.Amount.{sum_of, difference_of}
 use Rattle.ov_base.specs.Value.{or_zero}
-use Rattle.ov_base.specs.declared.value.Value.{Value}
 use Rattle.ov_base.specs.declared.value.Value.TheVariants.{Absent, Number}
 use Rattle.ov_functor.specs.declared.part.Part.{Part}
 use Rattle.ov_functor.specs.declared.part.Part.TheVariants.{Put, Del, Add, Least, Greatest, Move as MovePart, Get}
 use Rattle.ov_functor.specs.declared.item.Shown.{Shown}
 use Rattle.ov_functor.specs.Execution.{Map, set, least_value, greatest_value}
+use Rattle.ov_functor.specs.Kept.{map_by}
 use Rattle.ov_functor.specs.Serial.{Begun}
 
 -- a number above all versions
@@ -40,14 +38,9 @@ abbrev pub are_distinct : List Begun → Bool
 are_distinct [] = true
 are_distinct (one ∷ others) = not (has one.version others) && are_distinct others
 
--- the value that an amount is, and absent where there is none
-abbrev pub value_by : Option ℤ → Value
-value_by None = Absent
-value_by (Some amount) = Number amount
-
 -- the map that amounts of keys stand for: a key without one is absent
 abbrev pub value_in : BTreeMap (List ℕ) ℤ → Map
-value_in values key = value_by (get (slice_cmp nat_cmp) values key)
+value_in values = map_by Number values
 
 -- the map with these values, the first set last
 abbrev pub set_back : Map → List Shown → Map

@@ -1,16 +1,16 @@
 //! Executing one whole transaction on the amounts of the keys.
 ghost use Rattle.std.specs.Prelude.{◌≡◌, ◌++◌, OnOk, IfOk};
 ghost use Rattle.ov_base.specs.declared.value.Value.TheVariants.{Number};
-ghost use Rattle.ov_functor.specs.Execution.{exec, hold, moves_of, set, least_value, greatest_value};
+ghost use Rattle.ov_functor.specs.Execution.{exec, set, least_value, greatest_value};
 ghost use Rattle.ov_serial.specs.Results.{set_back, value_in, writes_in, writes_of};
 
 use ov_base::{Amount, Key, Memory, Sequence, Value};
-use ov_functor::{Move, Part, Shown, Transaction};
+use ov_functor::{Part, Shown, Transaction, moves_hold, value_of};
 use std::alloc::Global;
 use std::collections::BTreeMap;
 
 /// Executes the whole transaction: where all its moves hold, each part writes what it makes of the old
-/// values. Only want of memory is an error.
+/// values. The only error is out of memory.
 pub(crate) fn execute(
     alloc: Global,
     transaction: &Transaction,
@@ -23,35 +23,6 @@ pub(crate) fn execute(
     }
     let writes = writes_of(alloc, transaction.parts(), values)?;
     set_all(writes.as_slice(), values)
-}
-
-/// Whether all moves among the parts hold.
-pub(crate) fn moves_hold(parts: &[Part], values: &BTreeMap<Key, Amount>) -> bool
-    ensures { result ≡ hold (value_in values.now) (moves_of parts.now) }
-{
-    for part in parts {
-        if let Part::Move { from, to, amount } = part {
-            let one = Move {
-                from: *from,
-                to: *to,
-                amount: *amount,
-            };
-            if !one.holds(value_of(values, from), value_of(values, to)) {
-                return false;
-            }
-        }
-    }
-    true
-}
-
-/// The value of a key: its amount, or absent where it has none.
-pub(crate) fn value_of(values: &BTreeMap<Key, Amount>, key: &Key) -> Value
-    ensures { result ≡ value_in values.now key.now }
-{
-    match values.get(key) {
-        None => Value::Absent,
-        Some(amount) => Value::Number(*amount),
-    }
 }
 
 /// What the parts write, from the old values, in the order of the parts.

@@ -1,18 +1,19 @@
 -- When the command that comes next may begin, from how the sessions stand.
-use Rattle.std.proofs.Common.{◌≡◌, ℕ, ◌+◌, ◌<◌, ◌≤◌, ◌^◌, Bool, true, false, IsTrue, ◌↔◌, ◌&&◌, List, [], ◌∷◌, length, get_or, zero, suc, Some, None, Option, refl, ap, sym, subst, ◌∙◌, arith, inl, inr}
+use Rattle.std.proofs.Common.{◌≡◌, ℕ, ◌+◌, ◌<◌, ◌≤◌, ◌^◌, Bool, true, false, IsTrue, ◌↔◌, ◌&&◌, List, [], ◌∷◌, length, Some, None, Option, refl, ap, sym, subst, ◌∙◌, arith, inl, inr}
 use Rattle.std.specs.Prelude.{slice_get, ◌==◌, if◌then◌else◌}
 use Rattle.std.specs.List.{AllByRecursion, list_all}
 use Rattle.std.proofs.lemmas.Bool.{le-leb, leb-true, eqb-true, and_parts}
 use Rattle.std.proofs.lemmas.Bool.Decides.{eqb_tells}
 use Rattle.std.proofs.lemmas.Option.{get_or_from_slice_get, slice_get_within}
 use Rattle.ov_base.proofs.Readers.{bind_some, chosen}
+use Rattle.ov_base.proofs.Lists.{all_at}
 use Rattle.ov_session.specs.declared.after.After.{After}
 use Rattle.ov_session.specs.declared.planned.Planned.{Planned}
 use Rattle.ov_session.specs.declared.plan.SessionPlan.{SessionPlan}
 use Rattle.ov_session.specs.declared.roster.Roster.{Roster}
 use Rattle.ov_session.specs.declared.sessions.Standing.{Standing}
 use Rattle.ov_session.specs.Events.{Event, known}
-use Rattle.ov_session.specs.Standing.{State, StandsFor, IsRoster, MayBegin, Has, IsIdle, standing, standing_after, is_short, next_of, knows}
+use Rattle.ov_session.specs.Standing.{most_commands, State, StandsFor, IsRoster, MayBegin, Has, IsIdle, standing, standing_after, is_short, next_of, knows}
 
 -- What comes next in a session.
 pub record ComesNext (roster : Roster) (gate s : ℕ) (stands : Standing) (planned : Planned) : Type 0 where
@@ -103,30 +104,25 @@ may_begin roster gate events state s stands planned is next known h =
       waited = known_all roster gate events state planned.after h known;
     }
 
-all_at : {X : Type 0} (P : X → Type 0) (xs : List X) (i : ℕ) (d : X) → i < length xs → AllByRecursion P xs → P (get_or xs i d)
-all_at P [] i d here all = absurd (omega arith)
-all_at P (x ∷ xs) zero d here all = all.0
-all_at P (x ∷ xs) (suc i) d here all = all_at P xs i d (omega arith) all.1
-
-are_short : (plans : List SessionPlan) → AllByRecursion (λ plan. length plan.planned ≤ 4000) plans → list_all is_short plans ≡ true
+are_short : (plans : List SessionPlan) → AllByRecursion (λ plan. length plan.planned ≤ most_commands) plans → list_all is_short plans ≡ true
 are_short [] all = refl
-are_short (plan ∷ plans) all = rw (le-leb (length plan.planned) 4000 all.0) (are_short plans all.1)
+are_short (plan ∷ plans) all = rw (le-leb (length plan.planned) most_commands all.0) (are_short plans all.1)
 
-short_all : (plans : List SessionPlan) → list_all is_short plans ≡ true → AllByRecursion (λ plan. length plan.planned ≤ 4000) plans
+short_all : (plans : List SessionPlan) → list_all is_short plans ≡ true → AllByRecursion (λ plan. length plan.planned ≤ most_commands) plans
 short_all [] e = tt
 short_all (plan ∷ plans) e =
     let parts = and_parts (is_short plan) (list_all is_short plans) e in
-    (leb-true (length plan.planned) 4000 parts.0, short_all plans parts.1)
+    (leb-true (length plan.planned) most_commands parts.0, short_all plans parts.1)
 
 -- what the test of the sessions tells, where there are few
 pub roster_by_test : (roster : Roster) (b : Bool) → length roster.sessions ≤ 64 → b ≡ list_all is_short roster.sessions → IsTrue b ↔ IsRoster roster
 roster_by_test roster b few e =
     (λ t. record { few = few; short = short_all roster.sessions (sym e ∙ t) }, λ h. e ∙ are_short roster.sessions h.short)
 
-plan_short : (plans : List SessionPlan) (s : ℕ) (plan : SessionPlan) → AllByRecursion (λ plan. length plan.planned ≤ 4000) plans → slice_get plans s ≡ Some plan → length plan.planned ≤ 4000
+plan_short : (plans : List SessionPlan) (s : ℕ) (plan : SessionPlan) → AllByRecursion (λ plan. length plan.planned ≤ most_commands) plans → slice_get plans s ≡ Some plan → length plan.planned ≤ most_commands
 plan_short plans s plan all here =
-    subst (λ (p : SessionPlan). length p.planned ≤ 4000) (get_or_from_slice_get plans s plan plan here)
-    (all_at (λ p. length p.planned ≤ 4000) plans s plan (slice_get_within plans s plan here) all)
+    subst (λ (p : SessionPlan). length p.planned ≤ most_commands) (get_or_from_slice_get plans s plan plan here)
+    (all_at (λ p. length p.planned ≤ most_commands) plans s plan (slice_get_within plans s plan here) all)
 
 -- what comes next is idle, and its number fits
 pub next_idle : (roster : Roster) (gate s : ℕ) (stands : Standing) (planned : Planned) → IsRoster roster → next_of roster gate s stands ≡ Some planned

@@ -9,14 +9,22 @@ use Rattle.ov_session.specs.declared.roster.Roster.{Roster}
 use Rattle.ov_session.specs.declared.sessions.Standing.{Standing}
 use Rattle.ov_session.specs.Events.{Event, begun, replied, known, floor}
 
+-- the most sessions of a script, and of a roster
+abbrev pub most_sessions : ℕ
+most_sessions = 64
+
+-- the most commands of a script, and so of a session
+abbrev pub most_commands : ℕ
+most_commands = 4000
+
 -- A roster of at most 64 sessions, each with at most 4,000 commands.
 pub record IsRoster (roster : Roster) : Type 0 where
-  pub few : length roster.sessions ≤ 64
-  pub short : AllByRecursion (λ plan. length plan.planned ≤ 4000) roster.sessions
+  pub few : length roster.sessions ≤ most_sessions
+  pub short : AllByRecursion (λ plan. length plan.planned ≤ most_commands) roster.sessions
 
 -- whether the session has at most 4,000 commands
 abbrev pub is_short : SessionPlan → Bool
-is_short plan = nat_le (length plan.planned) 4000
+is_short plan = nat_le (length plan.planned) most_commands
 
 -- Command seq of session s may begin at the gateway after these events: the session is the gateway's, no command of it
 -- is begun and not replied, it has a further command, and all that this one waits for is known as replied.

@@ -1,5 +1,5 @@
 //! What a command waits for.
-ghost use Rattle.ov_base.specs.Tests.{exact_tests};
+ghost use Rattle.ov_base.specs.Lemmas.{exact_tests};
 
 use ov_base::{Memory, Plain};
 

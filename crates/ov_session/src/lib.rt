@@ -20,5 +20,5 @@ pub use after::After;
 pub use name::SessionName;
 pub use plan::SessionPlan;
 pub use planned::Planned;
-pub use roster::Roster;
+pub use roster::{MOST_COMMANDS, MOST_SESSIONS, Roster};
 pub use sessions::{Sessions, Standing};

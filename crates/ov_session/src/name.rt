@@ -4,7 +4,8 @@ ghost use Rattle.std.specs.Cmp.{partial_equiv_from_equiv};
 ghost use Rattle.std.specs.Hash as fed;
 ghost use Rattle.std.proofs.Common.{ap};
 ghost use Rattle.ov_base.specs.Word.{Reads, itself};
-ghost use Rattle.ov_base.specs.Key.{key_eq, key_eq-equiv, key_eq-exact};
+ghost use Rattle.ov_base.specs.Key.{key_eq};
+ghost use Rattle.ov_base.specs.Lemmas.{key_eq-equiv, key_eq-exact};
 ghost use Rattle.ov_session.specs.Name.{IsName, name_of, is_name, all_name_bytes, is_name_byte, is_letter};
 
 use ov_base::{Key, Memory, Plain};
@@ -35,7 +36,7 @@ impl Model for SessionName {
 }
 
 impl SessionName {
-    /// The name of these bytes. None exactly where they are no name. Takes no memory.
+    /// The name of these bytes. None exactly where they are no name. Does not allocate.
     pub fn from_bytes(bytes: &[u8]) -> Option<SessionName>
         ensures exact { result ≡ name_of bytes.now }
         ensures reads { Reads itself IsName bytes.now result }

@@ -1,6 +1,6 @@
 //! What one session is to do.
-ghost use Rattle.ov_base.specs.Tests.{exact_tests};
-ghost use Rattle.ov_session.specs.PlannedTests.{planneds-cases};
+ghost use Rattle.ov_base.specs.Lemmas.{exact_tests};
+ghost use Rattle.ov_session.specs.Lemmas.Planneds.{planneds-cases};
 
 use crate::name::SessionName;
 use crate::planned::Planned;

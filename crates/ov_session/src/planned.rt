@@ -1,7 +1,7 @@
 //! What a session is to do next, and after what.
-ghost use Rattle.ov_base.specs.Tests.{exact_tests};
-ghost use Rattle.ov_functor.specs.CommandTests.{transaction-cases};
-ghost use Rattle.ov_session.specs.AfterTests.{afters-cases};
+ghost use Rattle.ov_base.specs.Lemmas.{exact_tests};
+ghost use Rattle.ov_functor.specs.Lemmas.Functors.{transaction-cases};
+ghost use Rattle.ov_session.specs.Lemmas.Afters.{afters-cases};
 
 use crate::after::After;
 use ov_base::{Memory, Plain, Sequence};

@@ -41,8 +41,8 @@ impl Model for Sessions {
 }
 
 impl Sessions {
-    /// The sessions of the roster at this gateway, before anything has happened. The only call that takes
-    /// memory. Condition, here and in [`Sessions::ready`]: the roster fits ([`Roster::fits`]).
+    /// The sessions of the roster at this gateway, before anything has happened. The only call that
+    /// allocates. Condition, here and in [`Sessions::ready`]: the roster fits ([`Roster::fits`]).
     pub fn new(alloc: Global, roster: &Roster, gate: u32) -> Result<Sessions, Memory>
         requires { IsRoster roster.now }
         ensures { IfOk result (λ s. StandsFor roster.now gate [] s) }
@@ -53,7 +53,7 @@ impl Sessions {
         })
     }
 
-    /// Whether the session is one of the roster. Takes no memory.
+    /// Whether the session is one of the roster. Does not allocate.
     pub fn has(&self, session: u32) -> bool
         ensures { IsTrue result ↔ Has self.now session }
     {
@@ -62,7 +62,7 @@ impl Sessions {
 
     /// The number of the session's next command, where it may begin. None exactly where the session is not
     /// this gateway's, has a command that is begun and not replied, has no further command, or waits for a
-    /// command that is not known as replied. Takes no memory.
+    /// command that is not known as replied. Does not allocate.
     pub fn ready(&self, roster: &Roster, session: u32) -> Option<u32>
         requires { IsRoster roster.now }
         ensures some { (gate : ℕ) (events : List Event) → StandsFor roster.now gate events self.now → IfSome result (λ seq. MayBegin roster.now gate events session seq) }
@@ -79,7 +79,7 @@ impl Sessions {
     }
 
     /// Notes that the session's next command began. Condition: none is begun and not replied, as where the
-    /// session is ready. All else stays. Takes no memory.
+    /// session is ready. All else stays. Does not allocate.
     pub fn begun(&mut self, session: u32)
         requires { IsIdle self.old session }
         ensures meaning { (roster : rosters.Roster) (gate : ℕ) (events : List Event) → StandsFor roster gate events self.old → StandsFor roster gate (Begun session (begun session events + 1) ∷ events) self.new }
@@ -88,7 +88,7 @@ impl Sessions {
         self.standings[session as usize].begun += 1;
     }
 
-    /// Whether this command of the session is begun and not replied. Takes no memory.
+    /// Whether this command of the session is begun and not replied. Does not allocate.
     pub fn is_open(&self, session: u32, seq: u32) -> bool
         ensures { IsTrue result ↔ IsOpen self.now session seq }
     {
@@ -101,7 +101,7 @@ impl Sessions {
     }
 
     /// Notes the reply of a command of the session. Condition: it is begun and not replied. All else stays.
-    /// Takes no memory.
+    /// Does not allocate.
     pub fn replied(&mut self, session: u32, seq: u32, reply: &Reply)
         requires { IsOpen self.old session seq }
         ensures meaning { (roster : rosters.Roster) (gate : ℕ) (events : List Event) → StandsFor roster gate events self.old → StandsFor roster gate (Replied session seq reply.now ∷ events) self.new }
@@ -115,7 +115,7 @@ impl Sessions {
     }
 
     /// Notes that a command of the session is replied elsewhere. Condition: the session is in the roster ([`Sessions::has`]). All
-    /// else stays. Takes no memory.
+    /// else stays. Does not allocate.
     pub fn told(&mut self, session: u32, seq: u32)
         requires { Has self.old session }
         ensures meaning { (roster : rosters.Roster) (gate : ℕ) (events : List Event) → StandsFor roster gate events self.old → StandsFor roster gate (Told session seq ∷ events) self.new }
@@ -126,7 +126,7 @@ impl Sessions {
     }
 
     /// The least watermark at which a snapshot of the session may be answered. Condition: the session is in
-    /// the roster. Takes no memory.
+    /// the roster. Does not allocate.
     pub fn floor(&self, session: u32) -> u64
         requires { Has self.now session }
         ensures value { result ≡ (standing self.now session).floor }

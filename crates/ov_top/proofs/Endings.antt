@@ -179,7 +179,7 @@ faulted_schedule told counts now names topology bytes script b form rose = recor
 
 -- ---- files that were refused
 
--- what the reading half answers where it refuses
+-- what the reading half returns where it refuses
 abbrev pub refusing : Refusal → Result (Option (List ℕ)) Refusal
 refusing refusal = Err refusal
 

@@ -48,7 +48,7 @@ entries_next script i transaction old mid new lt at before after =
     ∙ ap (λ (t : List Part). old ++ (entries_of (take i script) ++ command_entries (i + 1) map t)) at
     ∙ ap (λ (t : List FirstEntry). old ++ t) (sym more)
 
--- the entries of a front of the commands, and some of the next one, are a front of all
+-- the entries of a prefix of the commands, and some of the next one, are a prefix of all
 pub entries_inside : (script : List (List Part)) (i : ℕ) (transaction : List Part) (old mid new : List FirstEntry) → i < length script → transaction ≡ get_or script i transaction
     → mid ≡ old ++ entries_of (take i script) → AddsFront mid new (command_entries (i + 1) (executed empty (take i script)) transaction) → AddsFront old new (entries_of script)
 entries_inside script i transaction old mid new lt at before front =

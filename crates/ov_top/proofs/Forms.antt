@@ -1,14 +1,16 @@
 -- What is accepted of the three files, in the words of the headline.
-use Rattle.std.proofs.Common.{◌≡◌, ◌≢◌, ℕ, ◌≤◌, Bool, true, false, cond, eqb, List, [], ◌∷◌, length, get_or, Option, Some, None, Result, Ok, Err, refl, sym, ap, subst, ◌∙◌, arith}
+use Rattle.std.proofs.Common.{◌≡◌, ◌≢◌, ℕ, ◌≤◌, Bool, true, false, cond, eqb, List, [], ◌∷◌, length, get_or, Option, Some, None, Result, Ok, Err, refl, ap, subst, ◌∙◌, arith}
 use Rattle.std.proofs.lemmas.Bool.{and_parts, eqb-true, ne_eqb}
 use Rattle.std.specs.List.{AllByRecursion}
+use Rattle.ov_base.proofs.Traverse.{all_of_length}
 use Rattle.ov_base.specs.Split.{all_of}
 use Rattle.ov_base.proofs.Readers.{bind_some}
 use Rattle.ov_session.specs.declared.plan.SessionPlan.{SessionPlan}
 use Rattle.ov_topology.specs.Read.{topology_of}
 use Rattle.ov_topology.specs.Shape.{Shape, gates}
 use Rattle.ov_topology.specs.declared.fault.TopologyError.{TopologyError}
-use Rattle.ov_script.specs.Lines.{Fault, read_from}
+use Rattle.ov_base.specs.Lines.{Fault, read_from}
+use Rattle.ov_session.specs.Standing.{most_commands}
 use Rattle.ov_script.proofs.Schedules as schedules
 use Rattle.ov_script.proofs.Scripts.{script_takes, script_accepted, script_again}
 use Rattle.ov_script.specs.Script.{IsScript, script_of, script_text}
@@ -132,29 +134,18 @@ schedule_again = refl
 
 -- ---- how much is served
 
--- a list that is read has as many values
-all_of_length : {A B : Type 0} (f : A → Option B) (xs : List A) (ys : List B) → all_of f xs ≡ Some ys → length ys ≡ length xs
-all_of_length {A} {B} f [] ys e = let h : ◌≡◌ {A = List B} [] ys = cc in ap length (sym h)
-all_of_length {A} {B} f (x ∷ xs) ys e =
-    bind_some (f x) _ ys e λ y here rest.
-    bind_some (all_of f xs) _ ys rest λ zs others last.
-    let h : ◌≡◌ {A = List B} (y ∷ zs) ys = cc in
-    let same = all_of_length f xs zs others in
-    let count : length ys ≡ length (y ∷ zs) = ap length (sym h) in
-    omega (arith, same, count)
-
-plan_few : (plan : SessionPlan) (script : FirstScript) → length plan.planned ≤ 4000 → plan_served plan ≡ Some script → length script.transactions ≤ 4000
+plan_few : (plan : SessionPlan) (script : FirstScript) → length plan.planned ≤ most_commands → plan_served plan ≡ Some script → length script.transactions ≤ most_commands
 plan_few plan script few e =
     bind_some (all_of transaction_of plan.planned) _ script e λ transactions read last.
     let h : ◌≡◌ {A = FirstScript} (record { session = Some plan.name; transactions = transactions }) script = cc in
     let same = all_of_length transaction_of plan.planned transactions read in
-    subst (λ (s : FirstScript). length s.transactions ≤ 4000) h (omega (arith, same, few))
+    subst (λ (s : FirstScript). length s.transactions ≤ most_commands) h (omega (arith, same, few))
 
 -- a script that is served has at most 4,000 transactions
-pub served_few : (sessions : List SessionPlan) (script : FirstScript) → AllByRecursion (λ plan. length plan.planned ≤ 4000) sessions → sessions_served sessions ≡ Some script
-    → length script.transactions ≤ 4000
+pub served_few : (sessions : List SessionPlan) (script : FirstScript) → AllByRecursion (λ plan. length plan.planned ≤ most_commands) sessions → sessions_served sessions ≡ Some script
+    → length script.transactions ≤ most_commands
 served_few [] script few e =
     let h : ◌≡◌ {A = FirstScript} (record { session = None; transactions = [] }) script = cc in
-    subst (λ (s : FirstScript). length s.transactions ≤ 4000) h (omega arith)
+    subst (λ (s : FirstScript). length s.transactions ≤ most_commands) h (omega arith)
 served_few (plan ∷ []) script few e = plan_few plan script few.0 e
 served_few (plan ∷ next ∷ plans) script few e = absurd cc

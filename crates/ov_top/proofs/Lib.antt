@@ -1,4 +1,3 @@
-pub mod Items
 pub mod Entries
 pub mod Forms
 pub mod Endings

@@ -10,7 +10,7 @@ use Rattle.ov_top.specs.Causes.{Puts}
 abbrev pub refused_put : SinkError → Result (Unit {0}) SinkError
 refused_put error = Err error
 
--- a put that failed leaves a front of the text, and the status of its error
+-- a put that failed leaves a prefix of the text, and the status of its error
 pub puts_failed : (error : SinkError) (status meant : ℕ) (text : List ℕ) (before mid now : ℕ) (old new : Option (List ℕ))
     → (error ≡ sink.Memory → status ≡ 9) → (error ≡ sink.Failed → status ≡ 8) → before ≤ mid → (refused_put error ≡ Err sink.Failed → Rose mid now)
     → WroteFront old new text → Puts meant text status before now old new

@@ -14,9 +14,9 @@ use Rattle.ov_top.specs.Causes.{Told, Counts, MeantBy, Ends}
 use Rattle.ov_top.specs.Headline.{Among, serial_from, serial_at, Expected, AllExpected}
 use Rattle.ov_top.proofs.Headlines.{work_ends}
 
--- ---- the fronts of a script's entries
+-- ---- the prefixes of a script's entries
 
--- A front of the entries from a command on has none of them, or the beginning of that command alone, or both its entries and a front of the later ones.
+-- A prefix of the entries from a command on has none of them, or the beginning of that command alone, or both its entries and a prefix of the later ones.
 front_cases : (k : ℕ) (map : Map) (transaction : List Part) (others : List (List Part)) (P : List FirstEntry → Type 0) (front back : List FirstEntry)
     → entries_from k map (transaction ∷ others) ≡ front ++ back
     → P [] → P (Began k (number k 0) transaction ∷ [])
@@ -46,7 +46,7 @@ serial_passes k map (transaction ∷ others) front back serial n low e =
 
 -- ---- the replies
 
--- The front is the last part of the whole, and the map is what executing the part before it leaves.
+-- The prefix is the last part of the whole, and the map is what executing the part before it leaves.
 record Behind (whole front : List FirstEntry) (k : ℕ) (map : Map) : Type 0 where
   inside : (entry : FirstEntry) → Among entry front → Among entry whole
   serial : (n : ℕ) → number k 0 ≤ n → serial_at whole n ≡ serial_from map front n
@@ -73,7 +73,7 @@ first_expected whole later back k map transaction others behind e =
       shows = ap (λ (m : Map). reply_of m (number k 0) transaction) (sym before);
     }
 
--- each reply of the front is the expected one in the whole
+-- each reply of the prefix is the expected one in the whole
 abbrev ExpectedOf : List FirstEntry → List FirstEntry → Type 0
 ExpectedOf whole front = (j : ℕ) (reply : Reply) → Among (Replied j reply) front → Expected whole j reply
 
@@ -99,7 +99,7 @@ front_expected (transaction ∷ others) whole front back k map e behind =
     ])
     behind
 
--- the replies of a front of a script's entries are the expected ones
+-- the replies of a prefix of a script's entries are the expected ones
 script_expected : (script : List (List Part)) (front back : List FirstEntry) → entries_of script ≡ front ++ back → AllExpected front
 script_expected script front back e = front_expected script front front back 1 empty e (record { inside = λ entry h. h; serial = λ n h. refl })
 

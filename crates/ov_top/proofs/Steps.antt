@@ -1,5 +1,6 @@
 -- How a call ends, from what its halves did.
 use Rattle.std.proofs.Common.{◌≡◌, ℕ, List, [], ◌∷◌, ◌++◌, Option, Some, None, Ok, Err, refl, sym, ap, subst, inl, inr}
+use Rattle.ov_base.proofs.Lists.{front_of_nothing}
 use Rattle.ov_base.specs.Word.{AddsFront}
 use Rattle.ov_functor.specs.declared.part.Part.{Part}
 use Rattle.ov_io.specs.Causes.{Wrote, WroteFront}
@@ -53,10 +54,6 @@ meant_some told counts counts' names =
         is = refl;
       }),
     )
-
-front_of_nothing : {X : Type 0} (front back : List X) → [] ≡ front ++ back → front ≡ []
-front_of_nothing [] back e = refl
-front_of_nothing (x ∷ front) back e = absurd cc
 
 none_written : (old new : Option (List ℕ)) (text : List ℕ) → WroteFront old new [] → WroteFront old new text
 none_written old new text front = ([], text, refl, subst (Wrote old new) (front_of_nothing front.0 front.1 front.2) front.3)

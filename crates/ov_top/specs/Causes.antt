@@ -79,8 +79,8 @@ MeantBy told counts now (Some names) end = Meant told counts now names end
 
 -- ---- what was done
 
--- How a call ended: as it was meant to, unless the sink failed (8) or memory ran out (9). In any case a front of the text that was meant
--- was written, and the story has a front of the entries that were meant; only at 9 may it lack the script, and then it has no entry.
+-- How a call ended: as it was meant to, unless the sink failed (8) or memory ran out (9). In any case a prefix of the text that was meant
+-- was written, and the story has a prefix of the entries that were meant; only at 9 may it lack the script, and then it has no entry.
 pub record Ends (told : Told) (counts now : Counts) (names : Option Names) (status : ℕ) (script : List (List Part)) (entries : List FirstEntry) (before after : Option (List ℕ)) : Type 0 where
   pub end : Ending
   pub meant : MeantBy told counts now names end
@@ -151,13 +151,13 @@ abbrev pub end_of : Names → Result (Option (List ℕ)) Refusal → List (List 
 end_of names (Ok session) script = done (record { session = session; transactions = script })
 end_of names (Err refusal) script = refused (refusal_status refusal) (refusal_text names refusal) script
 
--- what the reading half answers is meant, unless memory ran out
+-- what the reading half returns is meant, unless memory ran out
 abbrev pub Prepares : Told → Counts → Counts → Names → Result (Option (List ℕ)) Refusal → List (List Part) → Type 0
 Prepares told counts now names result script = result ≢ Err why.Memory → Meant told counts now names (end_of names result script)
 
 -- ---- the writing half
 
--- A text was put: all of it at the status that was meant, else a front of it.
+-- A text was put: all of it at the status that was meant, else a prefix of it.
 pub record Puts (meant : ℕ) (text : List ℕ) (status : ℕ) (count now : ℕ) (before after : Option (List ℕ)) : Type 0 where
   pub whole : status ≢ 8 → status ≢ 9 → (status ≡ meant) × Wrote before after text
   pub failed : status ≡ 8 → meant ≢ 8 → Rose count now

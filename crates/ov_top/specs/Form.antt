@@ -12,7 +12,7 @@ use Rattle.ov_topology.specs.declared.fault.TopologyError.{TopologyError}
 use Rattle.ov_session.specs.declared.planned.Planned.{Planned}
 use Rattle.ov_session.specs.declared.plan.SessionPlan.{SessionPlan}
 use Rattle.ov_script.specs.FaultLines.{script_fault_text, schedule_fault_text}
-use Rattle.ov_script.specs.Lines.{Fault}
+use Rattle.ov_base.specs.Lines.{Fault}
 use Rattle.ov_script.specs.Script.{script_of}
 use Rattle.ov_script.specs.Schedule.{schedule_of}
 use Rattle.ov_script.specs.Sessions.{roster_of}

@@ -1,6 +1,7 @@
 //! What is accepted of the bytes of the three files, and what is served of that so far.
 ghost use Rattle.std.specs.Prelude.{◌≡◌, ◌≤◌, [], length, Option, IfOk, Some};
 ghost use Rattle.ov_base.specs.Split.{all_of};
+ghost use Rattle.ov_session.specs.Standing.{most_commands};
 ghost use Rattle.ov_top.specs.Causes.{AcceptsBy, by_topology, by_script, by_schedule};
 ghost use Rattle.ov_top.specs.Form.{accept_topology, accept_script, accept_schedule, is_first, transaction_of, plan_served, sessions_served, or_not_built};
 
@@ -62,7 +63,7 @@ fn topology_refusal(error: TopologyError) -> Refusal
 /// Accepts the bytes of a script of at most one session without snapshots, or says why not.
 pub(crate) fn accept_script(alloc: Global, bytes: &[u8]) -> Result<FirstScript, Refusal>
     ensures accepted { AcceptsBy result (accept_script bytes.now) }
-    ensures few { IfOk result (λ script. length script.transactions ≤ 4000) }
+    ensures few { IfOk result (λ script. length script.transactions ≤ most_commands) }
 {
     match Script::read(alloc, bytes, 1) {
         Err(error) => Err(script_refusal(error)),

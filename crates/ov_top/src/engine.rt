@@ -3,28 +3,29 @@
 //! is walked anew.
 ghost use Rattle.std.specs.Prelude.{◌≡◌, ◌≤◌, [], ◌∷◌, ◌++◌, length, map, IfOk, OnOk, OnErr};
 ghost use Rattle.ov_base.specs.Word.{AddsFront};
-ghost use Rattle.ov_functor.specs.Execution.{exec, reply_of, hold, moves_of, got, set};
+ghost use Rattle.ov_functor.specs.Execution.{exec, set};
 ghost use Rattle.ov_functor.specs.Functor.{reads, apply};
 ghost use Rattle.ov_functor.specs.Items.{set_all};
 ghost use Rattle.ov_functor.specs.Values.{valued};
+ghost use Rattle.ov_session.specs.Standing.{most_commands};
 ghost use Rattle.ov_top.specs.Engine.{value_in};
 ghost use Rattle.ov_top.specs.Run.{entries_of, command_entries};
 
 use crate::story::FirstEntry;
 use ov_base::{Key, Memory, Plain, Sequence, Value, Version};
-use ov_functor::{Functor, Item, Move, Part, Reply, Shown, Transaction, Valued, items_of};
+use ov_functor::{Functor, Item, Transaction, Valued, items_of, reply_on, value_of};
 use std::alloc::Global;
 use std::collections::BTreeMap;
 
 /// Executes the transactions one at a time, in their order, and adds the entries of each command: begun at
-/// version `k.0` for command k, and replied. Only want of memory is an error; a front of the entries was
+/// version `k.0` for command k, and replied. The only error is out of memory; a prefix of the entries was
 /// added then.
 pub(crate) fn execute(
     alloc: Global,
     script: &[Transaction],
     entries: &mut Sequence<FirstEntry>,
 ) -> Result<(), Memory>
-    requires { length script.now ≤ 4000 }
+    requires { length script.now ≤ most_commands }
     ensures ok { OnOk result (entries.new ≡ entries.old ++ entries_of script.now) }
     ensures front { OnErr result (AddsFront entries.old entries.new (entries_of script.now)) }
 {
@@ -43,7 +44,7 @@ fn execute_one(
     newest: &mut BTreeMap<Key, Value>,
     entries: &mut Sequence<FirstEntry>,
 ) -> Result<(), Memory>
-    requires { seq ≤ 4000 }
+    requires { seq ≤ most_commands }
     ensures entries { OnOk result (entries.new ≡ entries.old ++ command_entries seq (value_in newest.old) transaction.now) }
     ensures newest { OnOk result (value_in newest.new ≡ exec (value_in newest.old) transaction.now) }
     ensures front { OnErr result (AddsFront entries.old entries.new (command_entries seq (value_in newest.old) transaction.now)) }
@@ -58,72 +59,6 @@ fn execute_one(
         transaction: begun,
     })?;
     entries.push(FirstEntry::Replied { seq, reply })
-}
-
-/// The reply of a transaction at this version, which is above those of all items.
-fn reply_on(
-    alloc: Global,
-    version: Version,
-    transaction: &Transaction,
-    newest: &BTreeMap<Key, Value>,
-) -> Result<Reply, Memory>
-    ensures { IfOk result (λ r. r ≡ reply_of (value_in newest.now) version transaction.now) }
-{
-    let gets = gets_of(alloc, transaction.parts(), newest)?;
-    if moves_hold(transaction.parts(), newest) {
-        Ok(Reply::Done { version, gets })
-    } else {
-        Ok(Reply::Aborted { version, gets })
-    }
-}
-
-/// What the gets among the parts show.
-fn gets_of(
-    alloc: Global,
-    parts: &[Part],
-    newest: &BTreeMap<Key, Value>,
-) -> Result<Sequence<Shown>, Memory>
-    ensures { IfOk result (λ gets. gets ≡ got (value_in newest.now) parts.now) }
-{
-    let mut gets = Sequence::new(alloc);
-    for part in parts {
-        if let Part::Get { key } = part {
-            gets.push(Shown {
-                key: *key,
-                value: value_of(newest, key),
-            })?;
-        }
-    }
-    Ok(gets)
-}
-
-/// Whether all moves among the parts hold.
-fn moves_hold(parts: &[Part], newest: &BTreeMap<Key, Value>) -> bool
-    ensures { result ≡ hold (value_in newest.now) (moves_of parts.now) }
-{
-    for part in parts {
-        if let Part::Move { from, to, amount } = part {
-            let one = Move {
-                from: *from,
-                to: *to,
-                amount: *amount,
-            };
-            if !one.holds(value_of(newest, from), value_of(newest, to)) {
-                return false;
-            }
-        }
-    }
-    true
-}
-
-/// The newest value of a key, absent where it has none.
-fn value_of(newest: &BTreeMap<Key, Value>, key: &Key) -> Value
-    ensures { result ≡ value_in newest.now key.now }
-{
-    match newest.get(key) {
-        None => Value::Absent,
-        Some(value) => *value,
-    }
 }
 
 /// Gives each key that the transaction writes the value of its functor.

@@ -1,6 +1,7 @@
 //! The reading half: it reads the files in the order of work, or refuses, and writes nothing.
 ghost use Rattle.std.specs.Prelude.{◌≡◌, ◌≤◌, [], length, IfOk, IfErr};
 ghost use Rattle.ov_io.specs.Causes.{NoneFell, SameTold, Agrees};
+ghost use Rattle.ov_session.specs.Standing.{most_commands};
 ghost use Rattle.ov_top.specs.Causes.{Prepares, RefusesFile, refusal_by};
 ghost use Rattle.ov_top.specs.Names.{names_seen, name_at};
 
@@ -15,7 +16,7 @@ use std::alloc::Global;
 /// The most bytes of a file, 4 MiB.
 const LIMIT: u64 = 4_194_304;
 
-/// Reads the three files, in the order of work, and answers the name of the script's session, where it has
+/// Reads the three files, in the order of work, and returns the name of the script's session, where it has
 /// one. The script goes into the story as soon as it is accepted.
 pub(crate) fn prepare<F: Shelf>(
     alloc: Global,
@@ -25,7 +26,7 @@ pub(crate) fn prepare<F: Shelf>(
 ) -> Result<Option<SessionName>, Refusal>
     requires { story.old ≡ record { script = []; entries = [] } }
     ensures prepared { Prepares (F.told shelf.old) (F.faults shelf.old) (F.faults shelf.new) (names_seen names.now) result story.new.script }
-    ensures few { IfOk result (λ s. length story.new.script ≤ 4000) }
+    ensures few { IfOk result (λ s. length story.new.script ≤ most_commands) }
     ensures entries { story.new.entries ≡ [] }
 {
     let topology = read_file(alloc, names, FileWord::Topology, shelf)?;

@@ -35,7 +35,7 @@ pub(crate) enum FormFault {
 /// Why nothing is executed, one variant a cause (docs/STORE.md, Statuses).
 #[derive(Debug, Drop)]
 pub(crate) enum Refusal {
-    /// Want of memory.
+    /// Out of memory.
     Memory,
     /// The read of this file failed.
     Failed(FileWord),
@@ -58,7 +58,7 @@ impl FormFault {
         }
     }
 
-    /// Writes the fault line without its line feed. On an error a front of it was written.
+    /// Writes the fault line without its line feed. On an error a prefix of it was written.
     pub(crate) fn print_to(&self, alloc: Global, text: &mut Vec<u8>) -> Result<(), Memory>
         ensures { Printed result text.old.items text.new.items (form_line self.now) }
     {

@@ -15,7 +15,7 @@ use ov_io::{Shelf, Sink};
 use std::alloc::Global;
 
 /// All that the program does so far: `step` over a topology of one gateway and one node, a script of one
-/// session and an empty schedule. It answers the status (docs/STORE.md, Statuses), and the story says what
+/// session and an empty schedule. It returns the status (docs/STORE.md, Statuses), and the story says what
 /// was read, begun and replied. Condition: the story is empty.
 ///
 /// - `done`: at 0 the script is what the bytes spell, the entries are those of executing it, and the report
@@ -24,9 +24,9 @@ use std::alloc::Global;
 ///   a time, shows.
 /// - `read`: 7 comes only where the read of a file word failed and was counted; `write`: 8 only where the
 ///   sink has counted a fault.
-/// - `ends`: every other status, its text and the story are those of the order of work; at 8 and 9 a front
+/// - `ends`: every other status, its text and the story are those of the order of work; at 8 and 9 a prefix
 ///   of the text that was meant was written.
-/// - `complete`: with words and files in form and no risen count the answer is 0 or want of memory (9).
+/// - `complete`: with words and files in form and no risen count the status is 0 or, out of memory, 9.
 pub fn stepped_top<F: Shelf, K: Sink>(
     alloc: Global,
     words: &[String],

@@ -32,7 +32,7 @@ pub struct Story {
 }
 
 impl Story {
-    /// The story in which nothing was read and nothing done. Takes no memory.
+    /// The story in which nothing was read and nothing done. Does not allocate.
     pub fn empty(alloc: Global) -> Story
         ensures { result ≡ record { script = []; entries = [] } }
     {

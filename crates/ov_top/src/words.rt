@@ -17,7 +17,7 @@ pub(crate) struct FileNames<'a> {
     pub(crate) schedule: &'a str,
 }
 
-/// The file words, where the words are `step` and three words that do not begin with `-`. Takes no memory.
+/// The file words, where the words are `step` and three words that do not begin with `-`. Does not allocate.
 pub(crate) fn parse_words(words: &[String]) -> Option<FileNames<'_>>
     ensures { option_map names_seen result ≡ file_words (map string_bytes words.now) }
 {

@@ -24,7 +24,7 @@ const USAGE: &[u8] = b"usage: oceanvista step [--journal] TOPOLOGY SCRIPT SCHEDU
        oceanvista make NUMBER COMMANDS
 ";
 
-/// Writes the usage text. The status is 2, or that of the sink's fault or of want of memory.
+/// Writes the usage text. The status is 2, or that of the sink's fault or of `Memory`.
 pub(crate) fn put_usage<K: Sink>(alloc: Global, out: &mut K) -> u8
     ensures { Puts 2 usage_text result (K.faults out.old) (K.faults out.new) (K.written out.old) (K.written out.new) }
 {
@@ -32,7 +32,7 @@ pub(crate) fn put_usage<K: Sink>(alloc: Global, out: &mut K) -> u8
 }
 
 /// Writes why nothing was executed. The status is that of the refusal, or that of the sink's fault or of
-/// want of memory.
+/// `Memory`.
 pub(crate) fn put_refusal<K: Sink>(
     alloc: Global,
     names: &FileNames<'_>,
@@ -105,8 +105,8 @@ fn status_of(error: SinkError) -> u8
     }
 }
 
-/// Writes the report, a put for each line. The status is 0, or that of the sink's fault or of want of
-/// memory.
+/// Writes the report, a put for each line. The status is 0, or that of the sink's fault or of
+/// `Memory`.
 pub(crate) fn put_report<K: Sink>(
     alloc: Global,
     session: Option<SessionName>,

@@ -7,11 +7,13 @@ use Rattle.std.proofs.lemmas.Option.{cond_some}
 use Rattle.std.proofs.lemmas.Fmt.{decimal_digit}
 use Rattle.ov_base.specs.Number.{number_of}
 use Rattle.ov_base.specs.Split.{cut_at, lacks}
+use Rattle.ov_base.proofs.GroupTexts.{IsGrouped}
+use Rattle.ov_base.proofs.GroupedWords.{number_grouped}
 use Rattle.ov_base.proofs.Readers.{bind_some}
 use Rattle.ov_base.proofs.Numbers.{number_again, number_takes}
 use Rattle.ov_base.proofs.Splits.{cut_again, cut_takes, decimal_lacks, lacks_appended}
 use Rattle.ov_topology.specs.declared.place.Place.{Place}
-use Rattle.ov_topology.specs.Place.{IsPlace, place_text, place_of, letter_of}
+use Rattle.ov_topology.specs.Place.{IsPlace, place_text, place_at, place_of, letter_of}
 
 letter_again : (letter : ℕ) → 1 ≤ letter → letter ≤ 9 → letter_of (decimal letter) ≡ Some letter
 unfolding letter_of
@@ -30,28 +32,37 @@ letter_takes (digit ∷ []) letter e =
     (omega (arith, q.1), omega (arith, q.1), rw (is, decimal_digit letter (omega (arith, q.1))) refl)
 letter_takes (digit ∷ more ∷ bytes) letter e = absurd cc
 
+-- the two words of a place in form are read as that place
+pub place_at_again : (place : Place) → IsPlace place → place_at (decimal place.entry) (decimal place.letter) ≡ Some place
+place_at_again place h = rw (number_again place.entry h.held, letter_again place.letter h.letter h.digit, lt-ltb 0 place.entry (omega (arith, h.entry))) refl
+
+-- a place that is read of two words is in form, and these are its words
+pub place_at_takes : (number digit : List ℕ) (place : Place) → place_at number digit ≡ Some place → IsPlace place × (number ≡ decimal place.entry) × (digit ≡ decimal place.letter)
+place_at_takes number digit place e =
+    bind_some (number_of number) _ place e λ entry read rest.
+    bind_some (letter_of digit) _ place rest λ letter read2 last.
+    let made : Place = record { entry = entry; letter = letter } in
+    let q = cond_some (ltb 0 entry) made place last in
+    let n = number_takes number entry read in
+    let d = letter_takes digit letter read2 in
+    let fits : IsPlace made = record { entry = ltb-true 0 entry q.0; held = n.0; letter = d.0; digit = d.1 } in
+    subst (λ (x : Place). IsPlace x × (number ≡ decimal x.entry) × (digit ≡ decimal x.letter)) q.1 (fits, n.1, d.2)
+
 pub place_again : (place : Place) → IsPlace place → place_of (place_text place) ≡ Some place
 unfolding place_of
 place_again place h =
-    rw (
-      cut_again 32 (decimal place.entry) (decimal place.letter) (decimal_lacks 32 place.entry (omega arith) h.held),
-      number_again place.entry h.held,
-      letter_again place.letter h.letter h.digit,
-      lt-ltb 0 place.entry (omega (arith, h.entry)),
-    ) refl
+    rw (cut_again 32 (decimal place.entry) (decimal place.letter) (decimal_lacks 32 place.entry (omega arith) h.held)) (place_at_again place h)
 
 pub place_takes : (bytes : List ℕ) (place : Place) → place_of bytes ≡ Some place → IsPlace place × (bytes ≡ place_text place)
 unfolding place_of
 place_takes bytes place e =
     bind_some (cut_at 32 bytes) _ place e λ p cut rest.
-    bind_some (number_of p.0) _ place rest λ entry read rest2.
-    bind_some (letter_of p.1) _ place rest2 λ letter read2 last.
-    let made : Place = record { entry = entry; letter = letter } in
-    let q = cond_some (ltb 0 entry) made place last in
-    let n = number_takes p.0 entry read in
-    let d = letter_takes p.1 letter read2 in
-    let fits : IsPlace made = record { entry = ltb-true 0 entry q.0; held = n.0; letter = d.0; digit = d.1 } in
-    subst (λ (x : Place). IsPlace x × (bytes ≡ place_text x)) q.1 (fits, cut_takes 32 bytes p.0 p.1 cut ∙ rw (n.1, d.2) refl)
+    let t = place_at_takes p.0 p.1 place rest in
+    (t.0, cut_takes 32 bytes p.0 p.1 cut ∙ rw (t.1, t.2) refl)
+
+-- the two words of a place can stand in a group of a line
+pub place_grouped : (place : Place) → IsPlace place → IsGrouped (decimal place.entry) × IsGrouped (decimal place.letter)
+place_grouped place h = (number_grouped place.entry h.held, number_grouped place.letter (omega (arith, h.digit)))
 
 -- a place lacks each byte below the space, as a line feed
 pub place_lacks : (b : ℕ) (place : Place) → b < 32 → IsPlace place → lacks b (place_text place) ≡ true

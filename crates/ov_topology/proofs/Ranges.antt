@@ -36,7 +36,7 @@ gates_bounds centres zs gates e =
     let same : length zs ≡ length gates = ap length each.1 ∙ length-map gates pos in
     (omega arith, omega arith, each.0)
 
--- a step that answered has its value
+-- a step that gave a value has it
 need_ok : {A B P : Type 0} (o : Option A) (e : TopologyError) (f : A → Result B TopologyError) (t : B) → need o e f ≡ Ok t → ((x : A) → o ≡ Some x → f x ≡ Ok t → P) → P
 need_ok None e f t h k = absurd cc
 need_ok (Some x) e f t h k = k x refl h

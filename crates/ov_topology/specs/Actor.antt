@@ -10,6 +10,10 @@ use Rattle.ov_topology.specs.declared.actor.Actor.TheVariants.{Gate, Node, Settl
 abbrev pub IsGate : ℕ → Type 0
 IsGate gate = gate < 8
 
+-- the nodes that have a word
+abbrev pub IsNode : ℕ → ℕ → Type 0
+IsNode centre part = (centre < 5) × (part < 8)
+
 -- the settlers that have a word
 abbrev pub IsSettler : ℕ → Type 0
 IsSettler centre = centre < 5
@@ -17,7 +21,7 @@ IsSettler centre = centre < 5
 -- the actors that have a word
 abbrev pub IsActor : Actor → Type 0
 IsActor (Gate gate) = IsGate gate
-IsActor (Node centre part) = (centre < 5) × (part < 8)
+IsActor (Node centre part) = IsNode centre part
 IsActor (Settler centre) = IsSettler centre
 
 -- `g` and a digit
@@ -56,14 +60,18 @@ settler_of (letter ∷ []) = None
 settler_of (letter ∷ digit ∷ []) = if letter == 101 then digit_of 5 digit else None
 settler_of (letter ∷ digit ∷ more ∷ bytes) = None
 
--- reading `n0.0` to `n4.7`
-unfoldable pub node_of : List ℕ → Option Actor
-node_of [] = None
-node_of (letter ∷ []) = None
-node_of (letter ∷ centre ∷ []) = None
-node_of (letter ∷ centre ∷ dot ∷ []) = None
-node_of (letter ∷ centre ∷ dot ∷ part ∷ []) = if (letter == 110) && (dot == 46) then (digit_of 5 centre >>= λ c. digit_of 8 part >>= λ p. Some (Node c p)) else None
-node_of (letter ∷ centre ∷ dot ∷ part ∷ more ∷ bytes) = None
+-- reading `n0.0` to `n4.7`: the centre and the partition
+unfoldable pub node_at : List ℕ → Option (ℕ × ℕ)
+node_at [] = None
+node_at (letter ∷ []) = None
+node_at (letter ∷ centre ∷ []) = None
+node_at (letter ∷ centre ∷ dot ∷ []) = None
+node_at (letter ∷ centre ∷ dot ∷ part ∷ []) = if (letter == 110) && (dot == 46) then (digit_of 5 centre >>= λ c. digit_of 8 part >>= λ p. Some (c, p)) else None
+node_at (letter ∷ centre ∷ dot ∷ part ∷ more ∷ bytes) = None
+
+-- reading the word of a node
+abbrev pub node_of : List ℕ → Option Actor
+node_of bytes = node_at bytes >>= λ at. Some (Node at.0 at.1)
 
 -- the first of two that is something
 abbrev pub or_else : {A : Type 0} → Option A → Option A → Option A

@@ -18,7 +18,7 @@ name_text Read = codes "read"
 abbrev pub quorum_text : ℕ → ℕ → ℕ → List ℕ
 quorum_text w r d = codes "topology: quorum " ++ (decimal w ++ 32 ∷ (decimal r ++ 32 ∷ decimal d))
 
--- the line of a fault; want of memory has none
+-- the line of a fault; `Memory` has none
 abbrev pub fault_text : TopologyError → List ℕ
 fault_text faults.Memory = []
 fault_text faults.NotToml = codes "topology: not toml"

@@ -23,10 +23,13 @@ letter_of [] = None
 letter_of (digit ∷ []) = if nat_le 49 digit && nat_le digit 57 then Some (digit - 48) else None
 letter_of (digit ∷ more ∷ bytes) = None
 
+-- reading the two words of a place
+abbrev pub place_at : List ℕ → List ℕ → Option Place
+place_at number digit = do
+  entry ← number_of number
+  letter ← letter_of digit
+  if nat_lt 0 entry then Some (record { entry = entry; letter = letter }) else None
+
 -- reading a place
 unfoldable pub place_of : List ℕ → Option Place
-place_of bytes = do
-  parts ← cut_at 32 bytes
-  entry ← number_of parts.0
-  letter ← letter_of parts.1
-  if nat_lt 0 entry then Some (record { entry = entry; letter = letter }) else None
+place_of bytes = cut_at 32 bytes >>= λ words. place_at words.0 words.1

@@ -121,12 +121,12 @@ Fails (fault.Kind name) read = read ≡ Err (fault.Kind name)
 Fails (fault.Range name) read = read ≡ Err (fault.Range name)
 Fails (fault.Quorum w r d) read = read ≡ Err (fault.Quorum w r d)
 
--- what a call answers is what reading gives, unless memory ran out
+-- what a call returns is what reading gives, unless memory ran out
 abbrev pub Gives : {A B : Type 0} → (A → B) → Result A TopologyError → Result B TopologyError → Type 0
 Gives view (Ok x) read = read ≡ Ok (view x)
 Gives view (Err e) read = Fails e read
 
--- what a refusal of `toml` is told as
+-- what a refusal of `toml` is reported as
 abbrev pub IsCause : Error → TopologyError → Type 0
 IsCause e fault.Memory = Unit {0}
 IsCause e fault.NotToml = ¬ IsMemory e

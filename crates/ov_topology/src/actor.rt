@@ -1,8 +1,9 @@
 //! Actors: the gateways, nodes and settlers of a store.
 ghost use Rattle.std.specs.Prelude.{◌≡◌, ◌≤◌};
-ghost use Rattle.ov_base.specs.Tests.{exact_tests};
+ghost use Rattle.ov_base.specs.Lemmas.{exact_tests};
 ghost use Rattle.ov_base.specs.Word.{Reads, Printed};
-ghost use Rattle.ov_topology.specs.Actor.{IsActor, IsGate, IsSettler, actor_text, gate_text, node_text, settler_text, actor_of, gate_of, node_of, settler_of, digit_of};
+ghost use Rattle.ov_topology.specs.Actor as spec;
+ghost use Rattle.ov_topology.specs.Actor.{IsActor, IsGate, IsNode, IsSettler, actor_text, gate_text, node_text, settler_text, actor_of, gate_of, node_of, settler_of, digit_of};
 
 use ov_base::{Memory, Plain, print_number};
 use std::alloc::Global;
@@ -21,7 +22,7 @@ pub enum Actor {
 
 impl Actor {
     /// The actor that the bytes spell: `g0` to `g7`, `n0.0` to `n4.7` or `e0` to `e4`. None exactly where
-    /// they spell none. Takes no memory.
+    /// they spell none. Does not allocate.
     pub fn parse(text: &[u8]) -> Option<Actor>
         ensures exact { result ≡ actor_of text.now }
         ensures reads { Reads actor_text IsActor text.now result }
@@ -29,7 +30,7 @@ impl Actor {
         actor_read(text)
     }
 
-    /// Writes the one spelling at the end. On an error a front of it was written.
+    /// Writes the one spelling at the end. On an error a prefix of it was written.
     pub fn print_to(&self, alloc: Global, text: &mut Vec<u8>) -> Result<(), Memory>
         requires { IsActor self.now }
         ensures { Printed result text.old.items text.new.items (actor_text self.now) }
@@ -42,8 +43,8 @@ impl Actor {
     }
 }
 
-/// The number of the gateway that the bytes spell, `g0` to `g7`. None exactly where they spell none. Takes
-/// no memory.
+/// The number of the gateway that the bytes spell, `g0` to `g7`. None exactly where they spell none. Does
+/// not allocate.
 pub fn parse_gate(text: &[u8]) -> Option<u32>
     ensures exact { result ≡ gate_of text.now }
     ensures reads { Reads gate_text IsGate text.now result }
@@ -51,8 +52,8 @@ pub fn parse_gate(text: &[u8]) -> Option<u32>
     gate_read(text)
 }
 
-/// The centre of the settler that the bytes spell, `e0` to `e4`. None exactly where they spell none. Takes
-/// no memory.
+/// The centre of the settler that the bytes spell, `e0` to `e4`. None exactly where they spell none. Does
+/// not allocate.
 pub fn parse_settler(text: &[u8]) -> Option<u32>
     ensures exact { result ≡ settler_of text.now }
     ensures reads { Reads settler_text IsSettler text.now result }
@@ -60,7 +61,16 @@ pub fn parse_settler(text: &[u8]) -> Option<u32>
     settler_read(text)
 }
 
-/// Writes the one spelling of a gateway, `g0` to `g7`, at the end. On an error a front of it was written.
+/// The centre and the partition of the node that the bytes spell, `n0.0` to `n4.7`. None exactly where they
+/// spell none. Takes no memory.
+pub fn parse_node(text: &[u8]) -> Option<(u32, u32)>
+    ensures exact { result ≡ spec.node_at text.now }
+    ensures reads { Reads (λ at. node_text at.0 at.1) (λ at. IsNode at.0 at.1) text.now result }
+{
+    node_at(text)
+}
+
+/// Writes the one spelling of a gateway, `g0` to `g7`, at the end. On an error a prefix of it was written.
 pub fn print_gate(alloc: Global, gate: u32, text: &mut Vec<u8>) -> Result<(), Memory>
     requires { IsGate gate }
     ensures { Printed result text.old.items text.new.items (gate_text gate) }
@@ -69,7 +79,7 @@ pub fn print_gate(alloc: Global, gate: u32, text: &mut Vec<u8>) -> Result<(), Me
     print_number(alloc, u64::from(gate), text)
 }
 
-/// Writes the one spelling of a settler, `e0` to `e4`, at the end. On an error a front of it was written.
+/// Writes the one spelling of a settler, `e0` to `e4`, at the end. On an error a prefix of it was written.
 pub fn print_settler(alloc: Global, centre: u32, text: &mut Vec<u8>) -> Result<(), Memory>
     requires { IsSettler centre }
     ensures { Printed result text.old.items text.new.items (settler_text centre) }
@@ -78,7 +88,9 @@ pub fn print_settler(alloc: Global, centre: u32, text: &mut Vec<u8>) -> Result<(
     print_number(alloc, u64::from(centre), text)
 }
 
-fn print_node(alloc: Global, centre: u32, part: u32, text: &mut Vec<u8>) -> Result<(), Memory>
+/// Writes the one spelling of a node, `n0.0` to `n4.7`, at the end. On an error a prefix of it was written.
+pub fn print_node(alloc: Global, centre: u32, part: u32, text: &mut Vec<u8>) -> Result<(), Memory>
+    requires { IsNode centre part }
     ensures { Printed result text.old.items text.new.items (node_text centre part) }
 {
     text.push(b'n')?;
@@ -120,15 +132,22 @@ fn settler_read(text: &[u8]) -> Option<u32>
     }
 }
 
-#[tactic(auto, unfolding(crate::specs::Actor::node_of))]
 fn node_read(text: &[u8]) -> Option<Actor>
     ensures { result ≡ node_of text.now }
+{
+    let (centre, part) = node_at(text)?;
+    Some(Actor::Node { centre, part })
+}
+
+#[tactic(auto, unfolding(crate::specs::Actor::node_at))]
+fn node_at(text: &[u8]) -> Option<(u32, u32)>
+    ensures { result ≡ spec.node_at text.now }
 {
     match text {
         [letter, centre, dot, part] if *letter == b'n' && *dot == b'.' => {
             let centre = digit_below(5, *centre)?;
             let part = digit_below(8, *part)?;
-            Some(Actor::Node { centre, part })
+            Some((centre, part))
         }
         _ => None,
     }

@@ -37,7 +37,7 @@ impl Name {
     }
 }
 
-/// Why there is no topology: want of memory at any moment, else the first that holds, in this order
+/// Why there is no topology: out of memory at any moment, else the first that holds, in this order
 /// (docs/FORMATS.md, Topology).
 #[derive(Debug, Drop, Error)]
 pub enum TopologyError {
@@ -65,8 +65,8 @@ pub enum TopologyError {
 }
 
 impl TopologyError {
-    /// Writes the fault line without its line feed (docs/FORMATS.md, Fault lines); want of memory has the
-    /// empty line. On an error a front of it was written.
+    /// Writes the fault line without its line feed (docs/FORMATS.md, Fault lines); `Memory` has the
+    /// empty line. On an error a prefix of it was written.
     pub fn print_to(&self, alloc: Global, text: &mut Vec<u8>) -> Result<(), Memory>
         ensures { Printed result text.old.items text.new.items (fault_text self.now) }
     {

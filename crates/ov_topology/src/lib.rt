@@ -18,7 +18,9 @@ mod read;
 mod tests;
 mod topology;
 
-pub use actor::{Actor, parse_gate, parse_settler, print_gate, print_settler};
+pub use actor::{
+    Actor, parse_gate, parse_node, parse_settler, print_gate, print_node, print_settler,
+};
 pub use fault::{Name, TopologyError};
 pub use mode::Mode;
 pub use place::Place;

@@ -1,8 +1,8 @@
 //! Places: where a letter stands in a history.
 ghost use Rattle.std.specs.Prelude.{◌≡◌};
-ghost use Rattle.ov_base.specs.Tests.{exact_tests};
+ghost use Rattle.ov_base.specs.Lemmas.{exact_tests};
 ghost use Rattle.ov_base.specs.Word.{Reads, Printed};
-ghost use Rattle.ov_topology.specs.Place.{IsPlace, place_text, place_of, letter_of};
+ghost use Rattle.ov_topology.specs.Place.{IsPlace, place_text, place_at, place_of, letter_of};
 
 use ov_base::{Memory, Plain, parse_number, print_number, split_at_byte};
 use std::alloc::Global;
@@ -17,7 +17,7 @@ pub struct Place {
 
 impl Place {
     /// The place that the bytes spell: an entry from 1 to `2^64 - 1`, a space, and a digit from 1 to 9. None
-    /// exactly where they spell none. Takes no memory.
+    /// exactly where they spell none. Does not allocate.
     pub fn parse(text: &[u8]) -> Option<Place>
         ensures exact { result ≡ place_of text.now }
         ensures reads { Reads place_text IsPlace text.now result }
@@ -25,7 +25,21 @@ impl Place {
         place_read(text)
     }
 
-    /// Writes the one spelling at the end. On an error a front of it was written.
+    /// The place that the two words spell: an entry from 1 to `2^64 - 1`, and a digit from 1 to 9. None exactly
+    /// where they spell none. Does not allocate.
+    pub fn from_words(entry: &[u8], letter: &[u8]) -> Option<Place>
+        ensures { result ≡ place_at entry.now letter.now }
+    {
+        let entry = parse_number(entry)?;
+        let letter = letter_read(letter)?;
+        if 0 < entry {
+            Some(Place { entry, letter })
+        } else {
+            None
+        }
+    }
+
+    /// Writes the one spelling at the end. On an error a prefix of it was written.
     pub fn print_to(&self, alloc: Global, text: &mut Vec<u8>) -> Result<(), Memory>
         requires { IsPlace self.now }
         ensures { Printed result text.old.items text.new.items (place_text self.now) }
@@ -41,13 +55,7 @@ fn place_read(text: &[u8]) -> Option<Place>
     ensures { result ≡ place_of text.now }
 {
     let (entry, letter) = split_at_byte(text, b' ')?;
-    let entry = parse_number(entry)?;
-    let letter = letter_read(letter)?;
-    if 0 < entry {
-        Some(Place { entry, letter })
-    } else {
-        None
-    }
+    Place::from_words(entry, letter)
 }
 
 #[tactic(auto, unfolding(crate::specs::Place::letter_of))]

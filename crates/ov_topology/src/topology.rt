@@ -177,7 +177,7 @@ impl Topology {
 }
 
 impl Topology {
-    /// The topology of these parts, which takes the gateways as they are and no memory.
+    /// The topology of these parts, which takes the gateways as they are. Does not allocate.
     pub(crate) fn from_parts(
         centres: u32,
         partitions: u32,

@@ -5,6 +5,6 @@ use Rattle.ov_gossip.proofs.vector.Vector.finished.Goals as goal
 
 pub returns-clause-least : goal.returns-clause-least
 returns-clause-least c =
-    let e : c.least_done.result ≡ least done_of c.args.self.now = c.least_done.ensures ∙ ap (least done_of) c.listed.ensures.marks in
+    let e : c.least_of.result ≡ least done_of c.args.self.now = c.least_of.ensures ∙ ap (least done_of) c.listed.ensures.marks in
     let some : 0 < length c.args.self.now = omega (arith, c.listed.ensures.form.some) in
     rw e (least_is done_of c.args.self.now some)

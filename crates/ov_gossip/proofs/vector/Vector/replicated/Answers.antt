@@ -5,6 +5,6 @@ use Rattle.ov_gossip.proofs.vector.Vector.replicated.Goals as goal
 
 pub returns-clause-least : goal.returns-clause-least
 returns-clause-least c =
-    let e : c.least_full.result ≡ least full_of c.args.self.now = c.least_full.ensures ∙ ap (least full_of) c.listed.ensures.marks in
+    let e : c.least_of.result ≡ least full_of c.args.self.now = c.least_of.ensures ∙ ap (least full_of) c.listed.ensures.marks in
     let some : 0 < length c.args.self.now = omega (arith, c.listed.ensures.form.some) in
     rw e (least_is full_of c.args.self.now some)

@@ -5,6 +5,6 @@ use Rattle.ov_gossip.proofs.vector.Vector.visible.Goals as goal
 
 pub returns-clause-least : goal.returns-clause-least
 returns-clause-least c =
-    let e : c.least_low.result ≡ least low_of c.args.self.now = c.least_low.ensures ∙ ap (least low_of) c.listed.ensures.marks in
+    let e : c.least_of.result ≡ least low_of c.args.self.now = c.least_of.ensures ∙ ap (least low_of) c.listed.ensures.marks in
     let some : 0 < length c.args.self.now = omega (arith, c.listed.ensures.form.some) in
     rw e (least_is low_of c.args.self.now some)

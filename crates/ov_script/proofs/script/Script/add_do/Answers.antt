@@ -1,7 +1,8 @@
 use Rattle.std.proofs.Common.{subst}
 use Rattle.ov_script.specs.Written.{Adds}
 use Rattle.ov_script.specs.declared.line.ScriptLine.{ScriptLine}
-use Rattle.ov_script.proofs.Adding.{parts_positive, do_ready}
+use Rattle.ov_functor.proofs.PartWordsAgain.{parts_positive}
+use Rattle.ov_script.proofs.Adding.{do_ready}
 use Rattle.ov_script.proofs.script.Script.add_do.Goals as goal
 
 pub new-requires : goal.new-requires

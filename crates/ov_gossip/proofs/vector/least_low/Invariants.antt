@@ -1,6 +1,0 @@
-use Rattle.std.proofs.Common.{◌≡◌, drop}
-use Rattle.ov_gossip.specs.Marks.{least_from, least, low_of}
-use Rattle.ov_gossip.proofs.vector.least_low.Given as goal
-
-abbrev pub invariant-loop-mark : goal.invariant-loop-mark
-invariant-loop-mark l = least_from low_of l.least (drop l.mark-index l.marks) ≡ least low_of l.marks

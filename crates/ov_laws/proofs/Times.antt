@@ -1,0 +1,4 @@
+-- Times and versions.
+pub mod Bounds
+pub mod Begun
+pub mod Once

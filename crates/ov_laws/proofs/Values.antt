@@ -1,0 +1,4 @@
+-- Values and replies.
+pub mod Begins
+pub mod Settled
+pub mod Shown

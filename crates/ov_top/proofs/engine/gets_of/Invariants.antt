@@ -1,7 +1,0 @@
-use Rattle.std.proofs.Common.{◌≡◌, ◌++◌, drop}
-use Rattle.ov_functor.specs.Execution.{got}
-use Rattle.ov_top.specs.Engine.{value_in}
-use Rattle.ov_top.proofs.engine.gets_of.Given as goal
-
-abbrev pub invariant-loop-part : goal.invariant-loop-part
-invariant-loop-part l = l.gets ++ got (value_in l.newest) (drop l.part-index l.parts) ≡ got (value_in l.newest) l.parts
