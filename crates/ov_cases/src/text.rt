@@ -1,8 +1,15 @@
-//! Cases of texts: a topology, a script or a schedule, through its own reader and printer.
+//! Cases of texts: a topology, a script, a schedule or a journal, through its own reader and printer.
+ghost use Rattle.std.specs.List.{AllByRecursion};
+ghost use Rattle.ov_journal.specs.Line.{HasLine};
+
 use crate::case::Case;
 use crate::fault::CaseFault;
 use crate::line::bytes_of;
 use ov_base::{Memory, print_number};
+use ov_event::{Entry, parse_items, print_items};
+use ov_functor::Reply;
+use ov_io::{ReportError, SureSink};
+use ov_journal::{JournalError, parse_entry, print_entry, read_journal, write_journal};
 use ov_script::{Schedule, Script};
 use ov_topology::Topology;
 use std::alloc::Global;
@@ -14,6 +21,8 @@ pub fn outcome(alloc: Global, kind: &str, case: &Case) -> Result<Vec<u8>, CaseFa
     match (kind, kind.strip_prefix("script ")) {
         ("topology", None) => print_topology(alloc, text.as_slice(), &mut printed)?,
         ("schedule", None) => print_schedule(alloc, text.as_slice(), &mut printed)?,
+        ("journal", None) => print_journal(alloc, text.as_slice(), &mut printed)?,
+        ("words", None) => print_words(alloc, text.as_slice(), &mut printed)?,
         (_, Some(gateways)) => match gateways.parse::<u32>() {
             Ok(gateways) => print_script(alloc, text.as_slice(), gateways, &mut printed)?,
             Err(_) => return Err(case.head_fault()),
@@ -91,6 +100,45 @@ fn print_schedule(alloc: Global, text: &[u8], printed: &mut Vec<u8>) -> Result<(
             end_line(printed)
         }
     }
+}
+
+/// Prints the journal of a text, or its fault line.
+fn print_journal(alloc: Global, text: &[u8], printed: &mut Vec<u8>) -> Result<(), Memory> {
+    match read_journal(alloc, text) {
+        Ok(entries) => write_entries(alloc, entries.as_slice(), printed),
+        Err(JournalError::Memory) => Err(Memory),
+        Err(JournalError::Line(line)) => {
+            printed.extend_from_slice(b"journal: line ")?;
+            print_number(alloc, line, printed)?;
+            end_line(printed)
+        }
+    }
+}
+
+/// Prints entries that were read, which have lines.
+fn write_entries(alloc: Global, entries: &[Entry], printed: &mut Vec<u8>) -> Result<(), Memory>
+    requires { AllByRecursion HasLine entries.now }
+{
+    let mut sink = SureSink::new(alloc);
+    match write_journal(alloc, entries, &mut sink) {
+        Ok(()) => Ok(printed.extend_from_slice(sink.written())?),
+        Err(ReportError::Memory | ReportError::WriteFault) => Err(Memory),
+    }
+}
+
+/// Prints the one line of the text by the reader of lines, of items or of replies that takes it, or `none`.
+fn print_words(alloc: Global, text: &[u8], printed: &mut Vec<u8>) -> Result<(), Memory> {
+    let line = text.strip_suffix(b"\n".as_slice()).unwrap_or(text);
+    if let Some(entry) = parse_entry(alloc, line)? {
+        print_entry(alloc, &entry, printed)?;
+    } else if let Some(items) = parse_items(alloc, line)? {
+        print_items(alloc, items.as_slice(), printed)?;
+    } else if let Some(reply) = Reply::parse(alloc, line)? {
+        reply.print_to(alloc, printed)?;
+    } else {
+        printed.extend_from_slice(b"none")?;
+    }
+    end_line(printed)
 }
 
 fn end_line(printed: &mut Vec<u8>) -> Result<(), Memory> {

@@ -1,0 +1,173 @@
+//! Journals: reading one from its text, and writing one to a sink.
+ghost use Rattle.std.specs.Prelude.{◌≡◌, ◌≤◌, List, [], ◌∷◌, ◌++◌, IfOk, IfErr, OnOk, OnErr, IsErrOf, Ok};
+ghost use Rattle.std.specs.List.{AllByRecursion};
+ghost use Rattle.ov_base.specs.Lines.{TakesLine, lines_text};
+ghost use Rattle.ov_io.specs.Causes.{Rose, Wrote, WroteFront};
+ghost use Rattle.ov_journal.specs.Journal as spec;
+ghost use Rattle.ov_journal.specs.Journal.{Gives, entry_read, first_read, journal_of, journal_text, line_read};
+ghost use Rattle.ov_journal.specs.Line.{HasLine, entry_text};
+
+use crate::error::JournalError;
+use crate::line::entry_read;
+use crate::print::line_of;
+use ov_base::{FromLines, LineError, Memory, Sequence, read_lines};
+use ov_event::Entry;
+use ov_io::{ReportError, Sink, put_text};
+use std::alloc::Global;
+use std::marker::Model;
+
+/// The first line.
+const FIRST_LINE: &[u8] = b"oceanvista journal 1";
+
+// ---- reading
+
+/// The entries of a journal, the oldest first (docs/FORMATS.md, Journal), or the number of its first line off the
+/// grammar.
+pub fn read_journal(alloc: Global, bytes: &[u8]) -> Result<Vec<Entry>, JournalError>
+    ensures exact { Gives (λ entries. entries.items) result (journal_of bytes.now) }
+    ensures spelled { IfOk result (λ entries. bytes.now ≡ journal_text entries.items) }
+    ensures form { IfOk result (λ entries. AllByRecursion HasLine entries.items) }
+{
+    journal_read(alloc, bytes)
+}
+
+fn journal_read(alloc: Global, bytes: &[u8]) -> Result<Vec<Entry>, JournalError>
+    ensures { Gives (λ entries. entries.items) result (journal_of bytes.now) }
+{
+    match bytes {
+        [] => Err(JournalError::Line(1)),
+        [_, ..] => lines_read(alloc, bytes),
+    }
+}
+
+fn lines_read(alloc: Global, bytes: &[u8]) -> Result<Vec<Entry>, JournalError>
+    ensures { Gives (λ entries. entries.items) result (spec.numbered (spec.lines_of bytes.now)) }
+{
+    let empty = Entries {
+        entries: Sequence::new(alloc),
+    };
+    match read_lines(alloc, empty, bytes) {
+        Ok(read) => Ok(read.entries.into_vec()),
+        Err(LineError::Memory) => Err(JournalError::Memory),
+        Err(LineError::Line { line, .. }) => Err(JournalError::Line(line)),
+    }
+}
+
+/// The entries of the lines that were read. Contracts see the list.
+#[derive(Drop)]
+pub struct Entries {
+    entries: Sequence<Entry>,
+}
+
+impl Model for Entries {
+    ghost use Rattle.std.specs.Prelude.{List};
+    ghost use Rattle.ov_event.specs.declared.entry.Entry.{Entry};
+
+    ghost Value = { List Entry };
+
+    ghost view = { λ e. e.entries };
+}
+
+impl FromLines for Entries {
+    type Fault = ();
+
+    ghost taken = { line_read };
+
+    ghost unended = { spec.unended };
+
+    fn take_line(&mut self, alloc: Global, line: u64, text: &[u8]) -> Result<(), LineError<()>> {
+        if line == 1 {
+            return take_first(line, text);
+        }
+        match entry_read(alloc, text) {
+            Err(_) => Err(LineError::Memory),
+            Ok(None) => Err(LineError::Line { line, fault: () }),
+            Ok(Some(entry)) => push_entry(&mut self.entries, entry),
+        }
+    }
+
+    fn unended(_line: u64) {}
+}
+
+/// Takes in the first line.
+fn take_first(line: u64, text: &[u8]) -> Result<(), LineError<()>>
+    ensures { (entries : List Entry) → TakesLine result line entries (first_read entries text.now) }
+{
+    if text == FIRST_LINE {
+        Ok(())
+    } else {
+        Err(LineError::Line { line, fault: () })
+    }
+}
+
+fn push_entry(entries: &mut Sequence<Entry>, entry: Entry) -> Result<(), LineError<()>>
+    ensures added { OnOk result (entries.new ≡ entries.old ++ entry ∷ []) }
+    ensures memory { IfErr result (λ error. error ≡ LineError.Memory) }
+{
+    match entries.push(entry) {
+        Ok(()) => Ok(()),
+        Err(_) => Err(LineError::Memory),
+    }
+}
+
+// ---- writing
+
+/// Writes the text of these entries, the oldest first, a put for each line. It is read back as these entries. After
+/// an error a prefix of it was written. `WriteFault` comes only where the sink's count of faults rose in this call;
+/// out of memory may always come. Condition: each entry has a line.
+pub fn write_journal<K: Sink>(
+    alloc: Global,
+    entries: &[Entry],
+    out: &mut K,
+) -> Result<(), ReportError>
+    requires { AllByRecursion HasLine entries.now }
+    ensures ok { OnOk result (Wrote (K.written out.old) (K.written out.new) (journal_text entries.now)) }
+    ensures err { OnErr result (WroteFront (K.written out.old) (K.written out.new) (journal_text entries.now)) }
+    ensures failed { IsErrOf result ReportError.WriteFault → Rose (K.faults out.old) (K.faults out.new) }
+    ensures later { K.faults out.old ≤ K.faults out.new }
+    ensures again { journal_of (journal_text entries.now) ≡ Ok entries.now }
+{
+    match put_text(alloc, b"oceanvista journal 1\n", out) {
+        Ok(()) => put_entries(alloc, entries, out),
+        Err(error) => Err(error),
+    }
+}
+
+fn put_entries<K: Sink>(alloc: Global, entries: &[Entry], out: &mut K) -> Result<(), ReportError>
+    requires { AllByRecursion HasLine entries.now }
+    ensures ok { OnOk result (Wrote (K.written out.old) (K.written out.new) (lines_text entry_text entries.now)) }
+    ensures err { OnErr result (WroteFront (K.written out.old) (K.written out.new) (lines_text entry_text entries.now)) }
+    ensures failed { IsErrOf result ReportError.WriteFault → Rose (K.faults out.old) (K.faults out.new) }
+    ensures later { K.faults out.old ≤ K.faults out.new }
+{
+    for entry in entries {
+        match put_entry(alloc, entry, out) {
+            Ok(()) => {}
+            Err(error) => return Err(error),
+        }
+    }
+    Ok(())
+}
+
+fn put_entry<K: Sink>(alloc: Global, entry: &Entry, out: &mut K) -> Result<(), ReportError>
+    requires { HasLine entry.now }
+    ensures ok { OnOk result (Wrote (K.written out.old) (K.written out.new) (entry_text entry.now ++ 10 ∷ [])) }
+    ensures err { OnErr result (WroteFront (K.written out.old) (K.written out.new) (entry_text entry.now ++ 10 ∷ [])) }
+    ensures failed { IsErrOf result ReportError.WriteFault → Rose (K.faults out.old) (K.faults out.new) }
+    ensures later { K.faults out.old ≤ K.faults out.new }
+{
+    match ended_line(alloc, entry) {
+        Err(_) => Err(ReportError::Memory),
+        Ok(line) => put_text(alloc, line.as_slice(), out),
+    }
+}
+
+/// The line of the entry, with its line feed.
+fn ended_line(alloc: Global, entry: &Entry) -> Result<Vec<u8>, Memory>
+    requires { HasLine entry.now }
+    ensures { IfOk result (λ line. line.items ≡ entry_text entry.now ++ 10 ∷ []) }
+{
+    let mut line = line_of(alloc, entry)?;
+    line.push(b'\n')?;
+    Ok(line)
+}
