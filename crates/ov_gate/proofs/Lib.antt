@@ -1,0 +1,12 @@
+pub mod Sets
+pub mod Rising
+pub mod Counts
+pub mod Kept
+pub mod Changes
+pub mod Stands
+pub mod Calls
+pub mod Begins
+pub mod Publishes
+pub mod Others
+pub mod Admits
+pub mod Clocks

@@ -1,0 +1,5 @@
+pub mod Small
+pub mod Tracked
+pub mod Tracker
+pub mod Gate
+pub mod Calls
