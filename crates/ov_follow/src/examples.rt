@@ -7,6 +7,7 @@ ghost use Rattle.ov_functor.specs.Execution.{empty};
 ghost use Rattle.ov_functor.specs.Items.{items_of};
 ghost use Rattle.ov_functor.specs.Values.{evaluated};
 ghost use Rattle.ov_functor.specs.declared.reply.Reply.TheVariants.{Done, Aborted, Snap};
+ghost use Rattle.ov_functor.specs.Unions.{backwards};
 ghost use Rattle.ov_topology.specs.declared.actor.Actor.TheVariants.{Gate, Node, Settler};
 ghost use Rattle.ov_topology.specs.declared.mode.Mode.TheVariants.{Quorum, One};
 ghost use Rattle.ov_event.specs.declared.entry.Entry as entries;
@@ -14,7 +15,7 @@ ghost use Rattle.ov_event.specs.declared.kind.Kind.TheVariants.{Began, Stored, P
 ghost use Rattle.ov_event.specs.declared.start.Start.TheVariants.{Draw};
 ghost use Rattle.ov_history.specs.Past.{at};
 ghost use Rattle.ov_history.specs.May.{Lawful};
-ghost use Rattle.ov_history.specs.Settlers.{harvest, backwards};
+ghost use Rattle.ov_history.specs.Settlers.{harvest};
 ghost use Rattle.ov_history.specs.Serial.{InWindow};
 ghost use Rattle.ov_follow.specs.Lines.{drive};
 ghost use Rattle.ov_follow.specs.Calm.{calm};

@@ -11,3 +11,4 @@ pub mod PartWords
 pub mod PartWordsAgain
 pub mod ReplyWords
 pub mod KeptMaps
+pub mod Unions

@@ -1,6 +1,7 @@
 -- What a settler is after its own entries: its open round, the answers of it, how far it has settled, and its values.
 use Rattle.std.specs.Prelude.{◌≡◌, ◌==◌, ℕ, ◌≤◌, ◌<◌, Bool, true, false, not, ◌&&◌, Option, Some, None, List, [], ◌∷◌, ◌++◌, if◌then◌else◌}
 use Rattle.ov_functor.specs.Execution.{Map, reply_of}
+use Rattle.ov_functor.specs.Unions.{all_added, backwards}
 use Rattle.ov_functor.specs.Values.{just_below, evaluated}
 use Rattle.ov_functor.specs.declared.item.Item.{Item}
 use Rattle.ov_functor.specs.declared.item.Shown.{Shown}
@@ -18,7 +19,6 @@ use Rattle.ov_event.specs.declared.start.Start.TheVariants.{Draw, Look}
 use Rattle.ov_event.specs.Letters.{is_settler}
 use Rattle.ov_history.specs.Past.{History, some, tally}
 use Rattle.ov_history.specs.Counts.{weight}
-use Rattle.ov_history.specs.Nodes.{all_added}
 
 -- ---- rounds
 
@@ -101,10 +101,6 @@ harvest s n (e ∷ h) = if is_settler s e.actor then all_added (brought s n e.ki
 abbrev pub IsEnough : Shape → ℕ → Round → ℕ → History → Mode → Type 0
 IsEnough t s round p h Quorum = t.read ≤ weight t (λ c. took s round.number c p h)
 IsEnough t s round p h One = took s round.number s p h ≡ true
-
-abbrev pub backwards : {A : Type 0} → List A → List A
-backwards [] = []
-backwards (x ∷ xs) = backwards xs ++ x ∷ []
 
 -- the values of the plan of a round: those of the items of its answers, by version and then key, over the settler's values just
 -- below the round's lower end

@@ -1,7 +1,8 @@
 //! What nodes hold, and what they answer.
 ghost use Rattle.std.specs.Prelude.{◌≡◌, ◌∷◌, IfOk};
 ghost use Rattle.std.specs.List.{filter};
-ghost use Rattle.ov_history.specs.Nodes.{same_place, precedes, added, all_added, is_inside, stored_in, stored_by, held, answer};
+ghost use Rattle.ov_functor.specs.Unions.{same_place, precedes, added, all_added, is_inside};
+ghost use Rattle.ov_history.specs.Nodes.{stored_in, stored_by, held, answer};
 
 use crate::past::is_node;
 use ov_base::{Memory, Plain, Sequence};

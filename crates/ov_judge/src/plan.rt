@@ -2,9 +2,9 @@
 ghost use Rattle.std.specs.Prelude.{◌≡◌, ◌∷◌, ◌++◌, map, if◌then◌else◌, IfOk};
 ghost use Rattle.ov_functor.specs.Functor.{reads};
 ghost use Rattle.ov_functor.specs.Values.{just_below, upto, valued, evaluated};
+ghost use Rattle.ov_functor.specs.Unions.{all_added, backwards};
 ghost use Rattle.ov_event.specs.Letters.{is_settler};
-ghost use Rattle.ov_history.specs.Nodes.{all_added};
-ghost use Rattle.ov_history.specs.Settlers.{brought, harvest, backwards, plan_values, values_in, values_by, values_of};
+ghost use Rattle.ov_history.specs.Settlers.{brought, harvest, plan_values, values_in, values_by, values_of};
 ghost use Rattle.ov_judge.specs.Rounds.{as_round};
 
 use crate::held::all_added;

@@ -5,5 +5,4 @@ pub mod Holdings
 pub mod Rounds
 pub mod Meets
 pub mod Harvests
-pub mod Sorted
 pub mod Items

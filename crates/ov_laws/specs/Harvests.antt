@@ -2,18 +2,13 @@
 use Rattle.std.specs.Prelude.{◌≡◌, ℕ, ◌<◌, true, Some, List, [], ◌∷◌, ◌++◌, slice_get, ◌↔◌}
 use Rattle.ov_functor.specs.Windows.{Among}
 use Rattle.ov_functor.specs.declared.item.Item.{Item}
+use Rattle.ov_functor.specs.Unions.{precedes}
 use Rattle.ov_history.specs.Past.{History}
-use Rattle.ov_history.specs.Nodes.{precedes}
 use Rattle.ov_history.specs.Settlers.{Round, open_round, IsEnough, harvest}
 use Rattle.ov_history.specs.May.{Setting, Lawful}
 use Rattle.ov_history.specs.Serial.{InWindow}
 
 -- ---- lists of items
-
--- each item stands before all behind it: by version, and of one version by key
-abbrev pub IsSorted : List Item → Type 0
-IsSorted [] = Unit {0}
-IsSorted (item ∷ items) = ((other : Item) → Among other items → precedes item other ≡ true) × IsSorted items
 
 -- no version and key stands at two places of the list
 abbrev pub IsOnceEach : List Item → Type 0

@@ -12,13 +12,13 @@ use Rattle.std.proofs.lemmas.Bool.{cases_Bool, both_ways, false_from_ne_true, or
 use Rattle.std.proofs.lemmas.Cmp.{upto}
 use Rattle.ov_base.specs.Key.{key_eq}
 use Rattle.ov_functor.specs.Placeholder.{Placeholder}
+use Rattle.ov_functor.specs.Unions.{same_place, added, is_inside}
 use Rattle.ov_lists.specs.Entries as lists
 use Rattle.ov_lists.specs.Entries.{Entry, stands_before, is_earlier, is_at, has_pair, IsOrdered, Inserts, put, by_version, inserted, window_of}
 use Rattle.ov_base.proofs.Lists.{all_weaker, all_filter}
 use Rattle.ov_lists.proofs.Orders.{all_put, Rises, rises_from, Holds, all_holds}
 use Rattle.ov_lists.proofs.Entries.{at_pair, entry_trans}
 use Rattle.ov_lists.proofs.Sorting.{earlier_total, earlier_trans, earlier_itself, earlier_apart, all_by_version, holds_by_version, rises_by_version}
-use Rattle.ov_history.specs.Nodes.{same_place, added, is_inside}
 use Rattle.ov_node.specs.Node.{item_of, items_in}
 
 -- ---- the order by version and then key

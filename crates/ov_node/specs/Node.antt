@@ -3,6 +3,7 @@ use Rattle.std.specs.Prelude.{◌≡◌, ℕ, Bool, true, false, List, map, Opti
 use Rattle.std.specs.List.{filter}
 use Rattle.ov_functor.specs.Placeholder.{Placeholder}
 use Rattle.ov_functor.specs.declared.item.Item.{Item}
+use Rattle.ov_functor.specs.Unions.{is_inside}
 use Rattle.ov_topology.specs.declared.actor.Actor.{Actor}
 use Rattle.ov_topology.specs.declared.actor.Actor.TheVariants.{Node}
 use Rattle.ov_event.specs.declared.kind.Kind.{Kind}
@@ -13,7 +14,7 @@ use Rattle.ov_event.specs.Letters.{is_asked}
 use Rattle.ov_topology.specs.declared.mode.Mode.{Mode}
 use Rattle.ov_lists.specs.Entries as lists
 use Rattle.ov_history.specs.Past.{History}
-use Rattle.ov_history.specs.Nodes.{held, is_inside}
+use Rattle.ov_history.specs.Nodes.{held}
 use Rattle.ov_history.specs.May.{Setting}
 use Rattle.ov_history.specs.Cores.{Runs}
 

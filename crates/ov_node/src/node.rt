@@ -10,11 +10,11 @@ ghost use Rattle.ov_event.specs.declared.letter.Letter.TheVariants.{Write};
 ghost use Rattle.ov_lists.specs.Entries.{shown};
 ghost use Rattle.ov_history.specs.Past.{History, stops};
 ghost use Rattle.ov_history.specs.Letters.{letter as letter_at};
-ghost use Rattle.ov_history.specs.Nodes.{is_inside, added, all_added};
 ghost use Rattle.ov_history.specs.May.{Setting, May};
 ghost use Rattle.ov_history.specs.Gives.{Take, Stop, act_of};
 ghost use Rattle.ov_history.specs.Cores.{letter_for, Steps};
 ghost use Rattle.ov_node.specs.Node.{NodeState, IsNode, Asks, item_of, items_in, stores, answers};
+ghost use Rattle.ov_functor.specs.Unions.{is_inside, added, all_added};
 
 use ov_base::{Key, Memory, Plain, Sequence, Version, same};
 use ov_event::{Entry, Kind, Letter};

@@ -4,6 +4,7 @@ use Rattle.std.specs.Prelude.{if◌then◌else◌}
 use Rattle.std.proofs.lemmas.Grind.{common_steps}
 use Rattle.ov_functor.specs.Windows.{Among}
 use Rattle.ov_functor.specs.declared.item.Item.{Item}
+use Rattle.ov_functor.proofs.Unions.{among_all_added}
 use Rattle.ov_gossip.specs.declared.marks.Marks.{Marks}
 use Rattle.ov_session.specs.Events.{greatest}
 use Rattle.ov_topology.specs.Shape.{Shape}
@@ -17,7 +18,7 @@ use Rattle.ov_history.specs.Letters.{letter, letter_from}
 use Rattle.ov_history.specs.Draws.{Drawn, last, time_by}
 use Rattle.ov_laws.specs.Draws.{Drew}
 use Rattle.ov_history.specs.Marks.{mark, mark_by}
-use Rattle.ov_history.specs.Nodes.{held, added, all_added, same_place, precedes, stored_by}
+use Rattle.ov_history.specs.Nodes.{held, stored_by}
 use Rattle.ov_laws.specs.Holders.{stored, stores}
 use Rattle.ov_history.specs.Placement.{acked, acks}
 use Rattle.ov_history.specs.May.{Setting, May, Lawful}
@@ -156,22 +157,6 @@ stored_before c p v h k is = some_before (λ e. if is_node c p e.actor then stor
 -- an acknowledgement that a gateway took stays taken
 pub acked_before : (g v c p : ℕ) (h : History) (k : ℕ) → acked g v c p (before k h) ≡ true → acked g v c p h ≡ true
 acked_before g v c p h k is = some_before (λ e. if is_gate g e.actor then acks v c p e.kind else false) h k is
-
--- an item stays where one is added
-pub among_added : (item new : Item) (items : List Item) → Among item items → Among item (added new items)
-among_added item new [] among = absurd among
-among_added item new (first ∷ rest) among = by (same_place first new) (precedes first new) among (among_added item new rest)
-  where
-    by : (a b : Bool) → (item ≡ first) ⊎ Among item rest → (Among item rest → Among item (added new rest)) → Among item (if a then first ∷ rest else (if b then first ∷ added new rest else new ∷ first ∷ rest))
-    by true b old later = old
-    by false true (inl is) later = inl is
-    by false true (inr old) later = inr (later old)
-    by false false old later = inr old
-
--- an item stays where others are added
-pub among_all_added : (item : Item) (new items : List Item) → Among item items → Among item (all_added new items)
-among_all_added item [] items among = among
-among_all_added item (one ∷ others) items among = among_all_added item others (added one items) (among_added item one items among)
 
 -- an item that a node held earlier it holds
 pub held_before : (c p : ℕ) (item : Item) (h : History) (k : ℕ) → Among item (held c p (before k h)) → Among item (held c p h)

@@ -8,6 +8,7 @@ use Rattle.ov_functor.specs.declared.item.Valued.{Valued}
 use Rattle.ov_functor.specs.Serial.{serial}
 use Rattle.ov_functor.specs.Values.{just_below, evaluated}
 use Rattle.ov_functor.specs.Windows.{Among}
+use Rattle.ov_functor.specs.Unions.{backwards, IsSorted}
 use Rattle.ov_functor.proofs.WindowValues.{Right, HasValue, Sound, Complete, just_below-is-serial, evaluated-right, evaluated-complete, evaluated-versions}
 use Rattle.ov_gossip.specs.Marks.{low_of}
 use Rattle.ov_topology.specs.Shape.{IsShape, gates}
@@ -25,7 +26,7 @@ use Rattle.ov_laws.specs.Final.{IsClosed}
 use Rattle.ov_history.specs.Marks.{mark, mark_by, visible}
 use Rattle.ov_history.specs.May.{Setting, Lawful, MayAsk, MaySettle, upper}
 use Rattle.ov_history.specs.Serial.{begun_at, serial_at}
-use Rattle.ov_history.specs.Settlers.{Round, open_round, settled, upper_end, values_in, values_of, known_below, harvest, backwards}
+use Rattle.ov_history.specs.Settlers.{Round, open_round, settled, upper_end, values_in, values_of, known_below, harvest}
 use Rattle.ov_laws.proofs.History.Counting.{least_less}
 use Rattle.ov_laws.proofs.Watermarks.Finals.{visible_final}
 use Rattle.ov_laws.proofs.History.Gathered.{greatest_grows}
@@ -35,10 +36,9 @@ use Rattle.ov_history.proofs.Past.{at_older}
 use Rattle.ov_laws.proofs.History.Earlier.{at_newest}
 use Rattle.ov_laws.specs.Replies.{IsPublished}
 use Rattle.ov_functor.proofs.Among.{among_front, among_back, among_either}
-use Rattle.ov_laws.proofs.Windows.Harvests.{harvest_is_window}
-use Rattle.ov_laws.specs.Harvests.{IsSorted, IsWindow}
-use Rattle.ov_laws.proofs.History.Lists.{backwards_comes, backwards_has}
-use Rattle.ov_laws.proofs.Windows.Sorted.{harvest_sorted, sorted_back}
+use Rattle.ov_laws.proofs.Windows.Harvests.{harvest_sorted, harvest_is_window}
+use Rattle.ov_laws.specs.Harvests.{IsWindow}
+use Rattle.ov_functor.proofs.Unions.{backwards_comes, backwards_has, sorted_back}
 use Rattle.ov_laws.proofs.Windows.Items.{window_back, window_fits, window_covers}
 use Rattle.ov_laws.proofs.Windows.Rounds.{settler_is}
 

@@ -1,78 +1,17 @@
--- Which items are among those that are added to others, filtered, placed by key, or kept in one partition.
+-- Which items are among those that are filtered, placed by key, or kept in one partition.
 use Rattle.std.proofs.Common.{◌≡◌, ◌==◌, ℕ, zero, suc, Bool, true, false, ◌⊎◌, inl, inr, ◌||◌, Option, Some, None, List, [], ◌∷◌, ◌++◌, take, drop, cond, refl, sym, ap, subst, ◌∙◌, arith}
 use Rattle.std.specs.Prelude.{if◌then◌else◌}
 use Rattle.std.specs.List.{filter, insert, list_any}
 use Rattle.std.proofs.lemmas.Grind.{common_steps}
-use Rattle.ov_base.specs.Lemmas.{key_eq-exact}
 use Rattle.ov_functor.specs.Functor.{functor_of}
 use Rattle.ov_functor.specs.Items.{keys_in, written_keys, item_by, items_at, items_of}
 use Rattle.ov_functor.specs.Placeholder.{Placeholder}
-use Rattle.ov_functor.specs.Windows.{Among, HasItem}
+use Rattle.ov_functor.specs.Windows.{Among}
 use Rattle.ov_functor.proofs.Among.{among_back, among_either}
 use Rattle.ov_functor.specs.declared.item.Item.{Item}
 use Rattle.ov_functor.specs.declared.part.Part.{Part}
 use Rattle.ov_topology.specs.Shape.{Shape, place_of}
 use Rattle.ov_event.specs.Letters.{place_in, placed, placed_all, by_key, items_in, is_kept, part_touches, touches}
-use Rattle.ov_history.specs.Nodes.{same_place, precedes, added, all_added}
-use Rattle.ov_laws.proofs.History.Earlier.{among_all_added}
-
--- ---- added items
-
--- what is among items with one added is that one or was among them
-pub added_comes : (new item : Item) (items : List Item) → Among item (added new items) → (item ≡ new) ⊎ Among item items
-added_comes new item [] among = among
-added_comes new item (first ∷ rest) among = by (same_place first new) (precedes first new) among (added_comes new item rest)
-  where
-    of : (item ≡ new) ⊎ Among item rest → (item ≡ new) ⊎ Among item (first ∷ rest)
-    of (inl is) = inl is
-    of (inr old) = inr (inr old)
-
-    by : (a b : Bool) → Among item (if a then first ∷ rest else (if b then first ∷ added new rest else new ∷ first ∷ rest))
-        → (Among item (added new rest) → (item ≡ new) ⊎ Among item rest) → (item ≡ new) ⊎ Among item (first ∷ rest)
-    by true b among later = inr among
-    by false true (inl is) later = inr (inl is)
-    by false true (inr old) later = of (later old)
-    by false false (inl is) later = inl is
-    by false false (inr old) later = inr old
-
--- what is among items with others added is one of the others or was among them
-pub all_added_comes : (item : Item) (new items : List Item) → Among item (all_added new items) → Among item new ⊎ Among item items
-all_added_comes item [] items among = inr among
-all_added_comes item (one ∷ others) items among = by (all_added_comes item others (added one items) among)
-  where
-    of : (item ≡ one) ⊎ Among item items → Among item (one ∷ others) ⊎ Among item items
-    of (inl is) = inl (inl is)
-    of (inr old) = inr old
-
-    by : Among item others ⊎ Among item (added one items) → Among item (one ∷ others) ⊎ Among item items
-    by (inl later) = inl (inr later)
-    by (inr here) = of (added_comes one item items here)
-
--- two items of one place have one version and one key
-same_place_is : (a b : Item) → same_place a b ≡ true → (a.version ≡ b.version) × (a.key ≡ b.key)
-same_place_is a b same = (grind (arith, common_steps), key_eq-exact a.key b.key (grind (arith, common_steps)))
-
--- where an item is added, one of its version and key is there
-pub added_has : (new : Item) (items : List Item) → HasItem (added new items) new.version new.key
-added_has new [] = record { found = new; within = inl refl; version_is = refl; key_is = refl }
-added_has new (first ∷ rest) = by (same_place first new) (precedes first new) refl (added_has new rest)
-  where
-    by : (a b : Bool) → same_place first new ≡ a → HasItem (added new rest) new.version new.key
-        → HasItem (if a then first ∷ rest else (if b then first ∷ added new rest else new ∷ first ∷ rest)) new.version new.key
-    by true b is later = let same = same_place_is first new is in record { found = first; within = inl refl; version_is = same.0; key_is = same.1 }
-    by false true is later = record { found = later.found; within = inr later.within; version_is = later.version_is; key_is = later.key_is }
-    by false false is later = record { found = new; within = inl refl; version_is = refl; key_is = refl }
-
--- an item of a version and key stays where others are added
-pub has_keeps : (new items : List Item) (version : ℕ) (key : List ℕ) → HasItem items version key → HasItem (all_added new items) version key
-has_keeps new items version key has = record { found = has.found; within = among_all_added has.found new items has.within; version_is = has.version_is; key_is = has.key_is }
-
--- where items are added, each has one of its version and key there
-pub all_added_has : (item : Item) (new items : List Item) → Among item new → HasItem (all_added new items) item.version item.key
-all_added_has item [] items among = absurd among
-all_added_has item (one ∷ others) items (inl is) =
-    subst (λ (x : Item). HasItem (all_added others (added one items)) x.version x.key) (sym is) (has_keeps others (added one items) one.version one.key (added_has one items))
-all_added_has item (one ∷ others) items (inr later) = all_added_has item others (added one items) later
 
 -- ---- filtered items
 

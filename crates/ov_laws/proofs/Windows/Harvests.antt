@@ -1,16 +1,19 @@
--- The harvest of a round that has answers enough is the window that it asked for.
+-- Harvests are sorted, and that of a round that has answers enough is the window that it asked for.
 use Rattle.std.proofs.Common.{◌≡◌, ◌==◌, ℕ, ◌+◌, ◌≤◌, ◌<◌, Bool, true, false, Some, List, [], ◌∷◌, ◌++◌, length, refl, sym, ap, subst, ◌∙◌, arith}
 use Rattle.std.specs.Prelude.{if◌then◌else◌}
 use Rattle.std.proofs.Math.Nat.{mod-lt}
 use Rattle.ov_functor.specs.Windows.{Among}
 use Rattle.ov_functor.specs.declared.item.Item.{Item}
+use Rattle.ov_functor.specs.Unions.{all_added, IsSorted}
+use Rattle.ov_functor.proofs.Unions.{all_added_sorted}
+use Rattle.ov_event.specs.Letters.{is_settler}
 use Rattle.ov_topology.specs.Shape.{Shape, IsShape, byte_sum, place_of}
 use Rattle.ov_topology.specs.declared.actor.Actor.TheVariants.{Settler}
 use Rattle.ov_topology.specs.declared.mode.Mode.{Mode}
 use Rattle.ov_topology.specs.declared.mode.Mode.TheVariants.{Quorum, One}
 use Rattle.ov_history.specs.Past.{History, at, before}
 use Rattle.ov_history.specs.Nodes.{held}
-use Rattle.ov_history.specs.Settlers.{Round, open_round, took, harvest, IsEnough}
+use Rattle.ov_history.specs.Settlers.{Round, open_round, took, brought, harvest, IsEnough}
 use Rattle.ov_history.specs.May.{Setting, May, Lawful, MayAsk}
 use Rattle.ov_laws.specs.Final.{IsClosed}
 use Rattle.ov_history.specs.Serial.{begun_at, InWindow}
@@ -22,6 +25,17 @@ use Rattle.ov_laws.proofs.Windows.Meets.{Meets, meets}
 use Rattle.ov_laws.proofs.Windows.Added.{items_touch}
 use Rattle.ov_laws.proofs.Windows.Holdings.{IsBegun, one_item, stored_is_held}
 use Rattle.ov_laws.proofs.Windows.Rounds.{asked_by, open_is_asked, taken_tells, harvest_comes, took_first}
+
+-- ---- harvests are sorted
+
+-- a harvest is sorted
+pub harvest_sorted : (s n : ℕ) (h : History) → IsSorted (harvest s n h)
+harvest_sorted s n [] = record {}
+harvest_sorted s n (e ∷ h) = by (is_settler s e.actor) (harvest_sorted s n h)
+  where
+    by : (b : Bool) → IsSorted (harvest s n h) → IsSorted (if b then all_added (brought s n e.kind h) (harvest s n h) else harvest s n h)
+    by true sorted = all_added_sorted (brought s n e.kind h) (harvest s n h) sorted
+    by false sorted = sorted
 
 -- ---- what was begun before the question
 

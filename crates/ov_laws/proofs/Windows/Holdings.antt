@@ -8,6 +8,7 @@ use Rattle.ov_functor.specs.Placeholder.{Placeholder}
 use Rattle.ov_functor.specs.Windows.{Among, HasItem}
 use Rattle.ov_functor.specs.declared.item.Item.{Item}
 use Rattle.ov_functor.specs.declared.part.Part.{Part}
+use Rattle.ov_functor.specs.Unions.{all_added}
 use Rattle.ov_topology.specs.Shape.{Shape, place_of}
 use Rattle.ov_topology.specs.declared.actor.Actor.{Actor}
 use Rattle.ov_topology.specs.declared.actor.Actor.TheVariants.{Gate, Node, Settler}
@@ -22,13 +23,14 @@ use Rattle.ov_history.specs.Past.{History, at, before, is_node}
 use Rattle.ov_history.specs.Letters.{letter}
 use Rattle.ov_laws.specs.Draws.{Drew}
 use Rattle.ov_laws.specs.Holders.{stores, stored}
-use Rattle.ov_history.specs.Nodes.{stored_in, stored_by, all_added, held}
+use Rattle.ov_history.specs.Nodes.{stored_in, stored_by, held}
 use Rattle.ov_history.specs.May.{Setting, Guard, Lawful}
 use Rattle.ov_history.specs.Serial.{begun_at}
 use Rattle.ov_laws.proofs.History.Earlier.{drew_before, letter_at}
 use Rattle.ov_laws.proofs.Times.Begun.{begun_is_drawn, drew_is_begun}
 use Rattle.ov_laws.proofs.Windows.Writers.{write_sent}
-use Rattle.ov_laws.proofs.Windows.Added.{all_added_comes, all_added_has, has_keeps, by_key_has, by_key_comes, items_in_has, items_in_comes, items_fit}
+use Rattle.ov_functor.proofs.Unions.{all_added_comes, all_added_has, has_keeps}
+use Rattle.ov_laws.proofs.Windows.Added.{by_key_has, by_key_comes, items_in_has, items_in_comes, items_fit}
 
 -- ---- what is begun
 

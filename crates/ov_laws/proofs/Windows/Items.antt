@@ -6,12 +6,12 @@ use Rattle.ov_functor.specs.Functor.{functor_of}
 use Rattle.ov_functor.specs.Items.{written_keys, item_by, items_at, items_of}
 use Rattle.ov_functor.specs.Placeholder.{Placeholder}
 use Rattle.ov_functor.specs.Windows.{Among, Fits, Covers}
+use Rattle.ov_functor.specs.Unions.{backwards}
 use Rattle.ov_functor.proofs.ItemValues.{functor_writes}
 use Rattle.ov_history.specs.Past.{History}
-use Rattle.ov_history.specs.Settlers.{backwards}
 use Rattle.ov_history.specs.Serial.{begun_at, InWindow}
 use Rattle.ov_laws.proofs.Windows.Added.{items_fit}
-use Rattle.ov_laws.proofs.History.Lists.{backwards_comes, backwards_has}
+use Rattle.ov_functor.proofs.Unions.{backwards_comes, backwards_has}
 use Rattle.ov_laws.specs.Harvests.{IsWindow}
 
 -- ---- items of a transaction

@@ -4,6 +4,7 @@ use Rattle.std.specs.Prelude.{if◌then◌else◌}
 use Rattle.std.proofs.lemmas.Grind.{common_steps}
 use Rattle.ov_functor.specs.Windows.{Among, HasItem}
 use Rattle.ov_functor.specs.declared.item.Item.{Item}
+use Rattle.ov_functor.specs.Unions.{all_added, is_inside}
 use Rattle.ov_topology.specs.declared.actor.Actor.{Actor}
 use Rattle.ov_topology.specs.declared.actor.Actor.TheVariants.{Gate, Node, Settler}
 use Rattle.ov_topology.specs.declared.place.Place.{Place}
@@ -12,14 +13,15 @@ use Rattle.ov_event.specs.declared.entry.Entry.{Entry}
 use Rattle.ov_event.specs.declared.kind.Kind.{Kind}
 use Rattle.ov_event.specs.declared.kind.Kind.TheVariants as kinds
 use Rattle.ov_history.specs.Past.{History, at, before}
-use Rattle.ov_history.specs.Nodes.{all_added, is_inside, held}
+use Rattle.ov_history.specs.Nodes.{held}
 use Rattle.ov_history.specs.Settlers.{Round, opened, open_round, rounds, takes, took, brought, harvest}
 use Rattle.ov_history.specs.May.{Setting, May, Lawful, MayAnswer, MayTake}
 use Rattle.ov_history.specs.Serial.{InWindow}
 use Rattle.ov_laws.proofs.History.Sent.{ask_sent, answer_sent}
 use Rattle.ov_history.proofs.Past.{lawful_at, lawful_before, at_older}
 use Rattle.ov_laws.proofs.History.Earlier.{at_before, at_newest, before_before, held_before, letter_at}
-use Rattle.ov_laws.proofs.Windows.Added.{all_added_comes, all_added_has, has_keeps, filter_keeps, filter_comes}
+use Rattle.ov_functor.proofs.Unions.{all_added_comes, all_added_has, has_keeps}
+use Rattle.ov_laws.proofs.Windows.Added.{filter_keeps, filter_comes}
 use Rattle.ov_laws.proofs.Windows.Holdings.{begun_before, held_is_begun}
 
 -- ---- rounds that are asked for

@@ -1,10 +1,11 @@
 //! Windows: what a settler gathers in a round is the window that it asked for.
 ghost use Rattle.std.specs.Prelude.{◌≡◌, ℕ, Some};
+ghost use Rattle.ov_functor.specs.Unions.{IsSorted};
 ghost use Rattle.ov_history.specs.Past.{History};
 ghost use Rattle.ov_history.specs.Settlers.{Round, open_round, harvest};
 ghost use Rattle.ov_history.specs.May.{Setting};
 ghost use Rattle.ov_laws.specs.Runs.{IsRun};
-ghost use Rattle.ov_laws.specs.Harvests.{IsSorted, IsOnceEach, IsGathered, HasWindow, HasOnlyWindow, WindowStays};
+ghost use Rattle.ov_laws.specs.Harvests.{IsOnceEach, IsGathered, HasWindow, HasOnlyWindow, WindowStays};
 
 /// Where the open round of a settler has answers enough to be settled, the items of its answers are exactly the window that it
 /// asked for: the items of the begun transactions from its lower end up to and without its upper end. And that window stays.

@@ -1,6 +1,6 @@
 use Rattle.ov_history.specs.Settlers.{harvest}
-use Rattle.ov_laws.proofs.Windows.Harvests.{harvest_is_window}
-use Rattle.ov_laws.proofs.Windows.Sorted.{harvest_sorted, place_once, sorted_same}
+use Rattle.ov_laws.proofs.Windows.Harvests.{harvest_sorted, harvest_is_window}
+use Rattle.ov_functor.proofs.Unions.{place_once, sorted_same}
 use Rattle.ov_laws.proofs.laws.windows.harvest_list.Goals as goal
 
 pub returns-clause-sorted : goal.returns-clause-sorted

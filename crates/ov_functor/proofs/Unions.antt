@@ -1,4 +1,4 @@
--- Lists of items by version and then key: harvests are such lists, and such a list is determined by what is among it.
+-- Lists of items by version and then key: unions are such lists, what is among them, and that such a list is determined by it.
 use Rattle.std.proofs.Common.{◌≡◌, ◌==◌, ℕ, zero, suc, ◌≤◌, ◌<◌, Bool, true, false, cond, Ordering, Less, Equal, Greater, ◌⊎◌, inl, inr, Some, List, [], ◌∷◌, ◌++◌, refl, sym, ap, subst, ◌∙◌, arith}
 use Rattle.std.specs.Prelude.{if◌then◌else◌, nat_lt, slice_get}
 use Rattle.std.specs.Cmp.{IsTotalOrder}
@@ -9,40 +9,128 @@ use Rattle.std.proofs.lemmas.Cmp.{nat_cmp_total, nat_list_cmp_total, on_total, t
 use Rattle.std.proofs.lemmas.Grind.{common_steps}
 use Rattle.std.proofs.lemmas.Map.Lookups.{exact_unsigned, exact_bytes, exact_pairs}
 use Rattle.ov_base.specs.Key.{key_eq}
+use Rattle.ov_base.specs.Lemmas.{key_eq-exact}
 use Rattle.ov_functor.specs.declared.item.Item.{Item}
-use Rattle.ov_functor.specs.Windows.{Among, Descends}
+use Rattle.ov_functor.specs.Unions.{same_place, precedes, added, all_added, IsSorted, backwards}
+use Rattle.ov_functor.specs.Windows.{Among, Descends, HasItem}
 use Rattle.ov_base.proofs.Keys.{key_eq-self}
 use Rattle.ov_base.proofs.Orders.{less_from}
-use Rattle.ov_event.specs.Letters.{is_settler}
-use Rattle.ov_history.specs.Past.{History}
-use Rattle.ov_history.specs.Nodes.{same_place, precedes, added, all_added}
-use Rattle.ov_history.specs.Settlers.{brought, harvest, backwards}
-use Rattle.ov_laws.proofs.Windows.Added.{added_comes}
-use Rattle.ov_laws.specs.Harvests.{IsSorted}
-use Rattle.ov_laws.proofs.History.Lists.{backwards_comes}
+use Rattle.ov_functor.proofs.Among.{among_front, among_back, among_either}
+
+-- ---- lists backwards
+
+-- what is among a list backwards is among it
+pub backwards_comes : {X : Type 0} (x : X) (xs : List X) → Among x (backwards xs) → Among x xs
+backwards_comes x [] among = among
+backwards_comes x (first ∷ rest) among = by (among_either x (backwards rest) (first ∷ []) among) (backwards_comes x rest)
+  where
+    by : Among x (backwards rest) ⊎ Among x (first ∷ []) → (Among x (backwards rest) → Among x rest) → Among x (first ∷ rest)
+    by (inl later) old = inr (old later)
+    by (inr (inl here)) old = inl here
+    by (inr (inr none)) old = absurd none
+
+-- what is among a list is among it backwards
+pub backwards_has : {X : Type 0} (x : X) (xs : List X) → Among x xs → Among x (backwards xs)
+backwards_has x [] among = among
+backwards_has x (first ∷ rest) (inl here) = among_back x (backwards rest) (first ∷ []) (inl here)
+backwards_has x (first ∷ rest) (inr later) = among_front x (backwards rest) (first ∷ []) (backwards_has x rest later)
+
+-- ---- what is among items with others added
+
+-- an item stays where one is added
+pub among_added : (item new : Item) (items : List Item) → Among item items → Among item (added new items)
+among_added item new [] among = absurd among
+among_added item new (first ∷ rest) among = by (same_place first new) (precedes first new) among (among_added item new rest)
+  where
+    by : (a b : Bool) → (item ≡ first) ⊎ Among item rest → (Among item rest → Among item (added new rest)) → Among item (if a then first ∷ rest else (if b then first ∷ added new rest else new ∷ first ∷ rest))
+    by true b old later = old
+    by false true (inl is) later = inl is
+    by false true (inr old) later = inr (later old)
+    by false false old later = inr old
+
+-- an item stays where others are added
+pub among_all_added : (item : Item) (new items : List Item) → Among item items → Among item (all_added new items)
+among_all_added item [] items among = among
+among_all_added item (one ∷ others) items among = among_all_added item others (added one items) (among_added item one items among)
+
+-- what is among items with one added is that one or was among them
+pub added_comes : (new item : Item) (items : List Item) → Among item (added new items) → (item ≡ new) ⊎ Among item items
+added_comes new item [] among = among
+added_comes new item (first ∷ rest) among = by (same_place first new) (precedes first new) among (added_comes new item rest)
+  where
+    of : (item ≡ new) ⊎ Among item rest → (item ≡ new) ⊎ Among item (first ∷ rest)
+    of (inl is) = inl is
+    of (inr old) = inr (inr old)
+
+    by : (a b : Bool) → Among item (if a then first ∷ rest else (if b then first ∷ added new rest else new ∷ first ∷ rest))
+        → (Among item (added new rest) → (item ≡ new) ⊎ Among item rest) → (item ≡ new) ⊎ Among item (first ∷ rest)
+    by true b among later = inr among
+    by false true (inl is) later = inr (inl is)
+    by false true (inr old) later = of (later old)
+    by false false (inl is) later = inl is
+    by false false (inr old) later = inr old
+
+-- what is among items with others added is one of the others or was among them
+pub all_added_comes : (item : Item) (new items : List Item) → Among item (all_added new items) → Among item new ⊎ Among item items
+all_added_comes item [] items among = inr among
+all_added_comes item (one ∷ others) items among = by (all_added_comes item others (added one items) among)
+  where
+    of : (item ≡ one) ⊎ Among item items → Among item (one ∷ others) ⊎ Among item items
+    of (inl is) = inl (inl is)
+    of (inr old) = inr old
+
+    by : Among item others ⊎ Among item (added one items) → Among item (one ∷ others) ⊎ Among item items
+    by (inl later) = inl (inr later)
+    by (inr here) = of (added_comes one item items here)
+
+-- two items of one place have one version and one key
+same_place_is : (a b : Item) → same_place a b ≡ true → (a.version ≡ b.version) × (a.key ≡ b.key)
+same_place_is a b same = (grind (arith, common_steps), key_eq-exact a.key b.key (grind (arith, common_steps)))
+
+-- where an item is added, one of its version and key is there
+pub added_has : (new : Item) (items : List Item) → HasItem (added new items) new.version new.key
+added_has new [] = record { found = new; within = inl refl; version_is = refl; key_is = refl }
+added_has new (first ∷ rest) = by (same_place first new) (precedes first new) refl (added_has new rest)
+  where
+    by : (a b : Bool) → same_place first new ≡ a → HasItem (added new rest) new.version new.key
+        → HasItem (if a then first ∷ rest else (if b then first ∷ added new rest else new ∷ first ∷ rest)) new.version new.key
+    by true b is later = let same = same_place_is first new is in record { found = first; within = inl refl; version_is = same.0; key_is = same.1 }
+    by false true is later = record { found = later.found; within = inr later.within; version_is = later.version_is; key_is = later.key_is }
+    by false false is later = record { found = new; within = inl refl; version_is = refl; key_is = refl }
+
+-- an item of a version and key stays where others are added
+pub has_keeps : (new items : List Item) (version : ℕ) (key : List ℕ) → HasItem items version key → HasItem (all_added new items) version key
+has_keeps new items version key has = record { found = has.found; within = among_all_added has.found new items has.within; version_is = has.version_is; key_is = has.key_is }
+
+-- where items are added, each has one of its version and key there
+pub all_added_has : (item : Item) (new items : List Item) → Among item new → HasItem (all_added new items) item.version item.key
+all_added_has item [] items among = absurd among
+all_added_has item (one ∷ others) items (inl is) =
+    subst (λ (x : Item). HasItem (all_added others (added one items)) x.version x.key) (sym is) (has_keeps others (added one items) one.version one.key (added_has one items))
+all_added_has item (one ∷ others) items (inr later) = all_added_has item others (added one items) later
 
 -- ---- the order of items
 
 -- by version, and of one version by key
-abbrev place_cmp : Item → Item → Ordering
+abbrev pub place_cmp : Item → Item → Ordering
 place_cmp a b = ordering_then (nat_cmp a.version b.version) (slice_cmp nat_cmp a.key b.key)
 
 -- that order is total
-place_total : IsTotalOrder place_cmp
+pub place_total : IsTotalOrder place_cmp
 place_total = then_total (on_total (λ (x : Item). x.version) nat_cmp_total) (on_total (λ (x : Item). x.key) nat_list_cmp_total)
 
 -- an item that stands before one that stands before a third stands before that
-before_both : (a b c : Item) → precedes a b ≡ true → precedes b c ≡ true → precedes a c ≡ true
+pub before_both : (a b c : Item) → precedes a b ≡ true → precedes b c ≡ true → precedes a c ≡ true
 before_both a b c first second = ap is_lt (place_total.trans a b c (less_from (place_cmp a b) first) (less_from (place_cmp b c) second))
 
 -- of two items of one version and key neither stands before the other
-before_differs : (a b : Item) → precedes a b ≡ true → a.version ≡ b.version → a.key ≡ b.key → ⊥
+pub before_differs : (a b : Item) → precedes a b ≡ true → a.version ≡ b.version → a.key ≡ b.key → ⊥
 before_differs a b before version_is key_is =
     let same : precedes a b ≡ precedes b b = λ i. is_lt (ordering_then (nat_cmp (version_is i) b.version) (slice_cmp nat_cmp (key_is i) b.key)) in
     both_ways (precedes b b) (ap is_lt (tied_itself place_total b)) (sym same ∙ before)
 
 -- items that compare alike are of one version and key
-equal_same : (a b : Item) → place_cmp a b ≡ Equal → same_place a b ≡ true
+pub equal_same : (a b : Item) → place_cmp a b ≡ Equal → same_place a b ≡ true
 equal_same a b equal =
     let same = exact_pairs nat_cmp (slice_cmp nat_cmp) exact_unsigned exact_bytes (a.version, a.key) (b.version, b.key) equal in
     let version_is : a.version ≡ b.version = ap (λ (p : ℕ × List ℕ). p.0) same in
@@ -50,7 +138,7 @@ equal_same a b equal =
     grind (arith, common_steps)
 
 -- of two items of different versions or keys that do not stand in this order the second stands before the first
-else_after : (a b : Item) → same_place a b ≡ false → precedes a b ≡ false → precedes b a ≡ true
+pub else_after : (a b : Item) → same_place a b ≡ false → precedes a b ≡ false → precedes b a ≡ true
 else_after a b differ not = by (place_cmp a b) refl not
   where
     by : (o : Ordering) → place_cmp a b ≡ o → is_lt o ≡ false → precedes b a ≡ true
@@ -59,7 +147,7 @@ else_after a b differ not = by (place_cmp a b) refl not
     by Greater is not = ap is_lt (place_total.antisymm b a ∙ ap ordering_reverse is)
 
 -- an item that stands before another has no greater version
-before_is_under : (a b : Item) → precedes a b ≡ true → a.version ≤ b.version
+pub before_is_under : (a b : Item) → precedes a b ≡ true → a.version ≤ b.version
 before_is_under a b is = by (nat_lt a.version b.version) (a.version == b.version) refl refl is
   where
     by : (less same : Bool) → nat_lt a.version b.version ≡ less → (a.version == b.version) ≡ same
@@ -68,10 +156,10 @@ before_is_under a b is = by (nat_lt a.version b.version) (a.version == b.version
     by false true less_is same_is is = grind (arith, common_steps)
     by false false less_is same_is is = absurd (cc)
 
--- ---- harvests are sorted
+-- ---- unions are sorted
 
 -- what holds of an item and of all items of a list holds of all where it is added
-added_all : (P : Item → Type 0) (new : Item) (items : List Item) → P new → ((item : Item) → Among item items → P item) → (item : Item) → Among item (added new items) → P item
+pub added_all : (P : Item → Type 0) (new : Item) (items : List Item) → P new → ((item : Item) → Among item items → P item) → (item : Item) → Among item (added new items) → P item
 added_all P new items here all item among = by (added_comes new item items among)
   where
     by : (item ≡ new) ⊎ Among item items → P item
@@ -84,7 +172,7 @@ before_all new first rest before sorted other (inl is) = ap (precedes new) is �
 before_all new first rest before sorted other (inr later) = before_both new first other before (sorted.0 other later)
 
 -- where an item is added, a sorted list stays sorted
-added_sorted : (new : Item) (items : List Item) → IsSorted items → IsSorted (added new items)
+pub added_sorted : (new : Item) (items : List Item) → IsSorted items → IsSorted (added new items)
 added_sorted new [] sorted = ((λ other none. absurd none), sorted)
 added_sorted new (first ∷ rest) sorted = by (same_place first new) (precedes first new) refl refl (added_sorted new rest sorted.1)
   where
@@ -95,18 +183,9 @@ added_sorted new (first ∷ rest) sorted = by (same_place first new) (precedes f
     by false false same is later = (before_all new first rest (else_after first new same is) sorted, sorted)
 
 -- where items are added one after another, a sorted list stays sorted
-all_added_sorted : (new items : List Item) → IsSorted items → IsSorted (all_added new items)
+pub all_added_sorted : (new items : List Item) → IsSorted items → IsSorted (all_added new items)
 all_added_sorted [] items sorted = sorted
 all_added_sorted (one ∷ others) items sorted = all_added_sorted others (added one items) (added_sorted one items sorted)
-
--- a harvest is sorted
-pub harvest_sorted : (s n : ℕ) (h : History) → IsSorted (harvest s n h)
-harvest_sorted s n [] = record {}
-harvest_sorted s n (e ∷ h) = by (is_settler s e.actor) (harvest_sorted s n h)
-  where
-    by : (b : Bool) → IsSorted (harvest s n h) → IsSorted (if b then all_added (brought s n e.kind h) (harvest s n h) else harvest s n h)
-    by true sorted = all_added_sorted (brought s n e.kind h) (harvest s n h) sorted
-    by false sorted = sorted
 
 -- ---- the versions of a sorted list
 
@@ -128,7 +207,7 @@ sorted_back below (first ∷ rest) sorted less =
 -- ---- each version and key once
 
 -- the item at a place is among the list
-got_among : (items : List Item) (i : ℕ) (x : Item) → slice_get items i ≡ Some x → Among x items
+pub got_among : (items : List Item) (i : ℕ) (x : Item) → slice_get items i ≡ Some x → Among x items
 got_among [] i x got = absurd (cc)
 got_among (first ∷ rest) zero x got = inl (cc)
 got_among (first ∷ rest) (suc i) x got = inr (got_among rest i x got)
