@@ -1,12 +1,13 @@
 -- Splitting and joining undo each other.
-use Rattle.std.proofs.Common.{◌≡◌, ℕ, Bool, true, false, eqb, List, [], ◌∷◌, ◌++◌, map, refl, sym, ap, ◌∙◌, append_assoc, inl, inr}
+use Rattle.std.proofs.Common.{◌≡◌, ℕ, Bool, true, false, eqb, Option, Some, None, List, [], ◌∷◌, ◌++◌, map, refl, sym, ap, ◌∙◌, append_assoc, inl, inr}
 use Rattle.std.specs.List.{slice_split, onto_first, flat_map, AllByRecursion}
 use Rattle.std.proofs.lemmas.Bool.{cases_Bool}
 use Rattle.std.proofs.lemmas.Bool.Decides.{eqb_tells}
 use Rattle.std.proofs.lemmas.List.{append-nil}
 use Rattle.std.proofs.lemmas.List.Splits.{slice_split-cons_yes, slice_split-cons_no, slice_split_none, slice_split_at}
 use Rattle.std.proofs.lemmas.List.Elements.{All-from_recursion}
-use Rattle.ov_base.specs.Split.{joined, lacks}
+use Rattle.std.specs.Option.{option_map}
+use Rattle.ov_base.specs.Split.{cut_at, joined, lacks, onto}
 use Rattle.ov_base.proofs.Lists.{all_appended}
 use Rattle.ov_base.proofs.Splits.{lacks_appended}
 
@@ -23,6 +24,32 @@ split_some p (x ∷ xs) =
       | inl here ↦ ([], slice_split p xs, slice_split-cons_yes p x xs here)
       | inr past ↦ let r = split_some p xs in (x ∷ r.0, r.1, slice_split-cons_no p x xs past ∙ ap (onto_first x) r.2)
     ]
+
+-- the pieces round a byte, by what stands before the first one and behind it
+abbrev pub pieces_by : ℕ → List ℕ → Option (List ℕ × List ℕ) → List (List ℕ)
+pieces_by b bytes None = bytes ∷ []
+pieces_by b bytes (Some cut) = cut.0 ∷ slice_split (λ x. eqb x b) cut.1
+
+-- the pieces round a byte are what stands before the first one, and the pieces of the rest
+pub split_by_cut : (b : ℕ) (bytes : List ℕ) → slice_split (λ x. eqb x b) bytes ≡ pieces_by b bytes (cut_at b bytes)
+split_by_cut b [] = refl
+split_by_cut b (x ∷ xs) =
+    elim (eqb_tells x b) [
+      | inl e ↦ rw e.0 refl
+      | inr e ↦ rw e.0 (ap (onto_first x) (split_by_cut b xs) ∙ by (cut_at b xs))
+    ]
+  where
+    by : (o : Option (List ℕ × List ℕ)) → onto_first x (pieces_by b xs o) ≡ pieces_by b (x ∷ xs) (option_map (onto (x ∷ [])) o)
+    by None = refl
+    by (Some cut) = refl
+
+-- a piece that is cut off stands in front of the pieces of the rest
+pub split_cut : (b : ℕ) (bytes piece others : List ℕ) → cut_at b bytes ≡ Some (piece, others) → slice_split (λ x. eqb x b) bytes ≡ piece ∷ slice_split (λ x. eqb x b) others
+split_cut b bytes piece others e = split_by_cut b bytes ∙ ap (pieces_by b bytes) e
+
+-- a list without the byte is one piece
+pub split_uncut : (b : ℕ) (bytes : List ℕ) → cut_at b bytes ≡ None → slice_split (λ x. eqb x b) bytes ≡ bytes ∷ []
+split_uncut b bytes e = split_by_cut b bytes ∙ ap (pieces_by b bytes) e
 
 -- the pieces of a split, joined, give the list back
 pub joined_split : {X : Type 0} (p : X → Bool) (y : X) → ((x : X) → p x ≡ true → x ≡ y) → (xs : List X) → joined y (slice_split p xs) ≡ xs

@@ -1,75 +1,41 @@
 -- Texts of lines: the loop that reads one, and what is read against what is printed.
-use Rattle.std.proofs.Common.{◌≡◌, ℕ, ◌+◌, ◌<◌, ◌≤◌, Bool, true, false, cond, eqb, List, [], ◌∷◌, ◌++◌, map, length, get_or, drop, Result, Ok, Err, Bor, refl, sym, ap, subst, ◌∙◌, arith, append_assoc}
+use Rattle.std.proofs.Common.{◌≡◌, ℕ, ◌+◌, ◌≤◌, Bool, true, false, cond, eqb, List, [], ◌∷◌, ◌++◌, length, Option, Some, None, Result, Ok, Err, refl, sym, ap, subst, ◌∙◌, arith, append_assoc}
 use Rattle.std.specs.List.{slice_split, AllByRecursion}
 use Rattle.std.proofs.lemmas.Bool.{eqb-true}
-use Rattle.std.proofs.lemmas.List.{drop_more, length-drop, append-nil, nil_from_length}
-use Rattle.ov_base.specs.Split.{joined, lacks}
-use Rattle.ov_base.proofs.Joins.{Lacks, lacks_each, joined_split, split_again, split_some, HasFirst}
+use Rattle.std.proofs.lemmas.List.{append-nil, nil_from_length}
+use Rattle.ov_base.specs.Split.{cut_at, joined, lacks}
+use Rattle.ov_base.proofs.Joins.{Lacks, lacks_each, joined_split, split_again, split_cut, split_some, split_uncut, HasFirst}
 use Rattle.ov_base.specs.Lines.{Fault, at_line, read_from, read_text, lines_text, Refuses, shown_as}
 use Rattle.ov_base.specs.declared.lines.LineError.{LineError}
 use Rattle.ov_base.specs.declared.lines.LineError.TheVariants as errors
-
--- ---- the loop over the pieces of a text, by place
-
--- the pieces that a loop goes over
-abbrev pub Texts : Type 0
-Texts = List (Bor (List ℕ))
-
--- their bytes
-abbrev pub texts : Texts → List (List ℕ)
-texts pieces = map (λ piece. piece.now) pieces
-
--- what a list of pieces has past its end
-abbrev pub blank : Bor (List ℕ)
-blank = record { ref_ptr = (0, 0); now = [] }
 
 -- what a line makes of the lines before it
 abbrev pub Steps : Type 0 → Type 0 → Type 0
 Steps S F = S → ℕ → List ℕ → Result S F
 
-one_left : (pieces : Texts) (i : ℕ) (d : Bor (List ℕ)) → i + 1 ≡ length pieces → drop i pieces ≡ get_or pieces i d ∷ []
-one_left pieces i d e =
-    drop_more pieces i d (omega arith)
-    ∙ ap (λ (t : Texts). get_or pieces i d ∷ t) (nil_from_length (drop (i + 1) pieces) (omega (arith, length-drop (i + 1) pieces)))
+-- ---- the loop that cuts off one line after the other
 
-some_left : {X : Type 0} (xs : List X) → 0 < length xs → (x : X) × (ys : List X) × (xs ≡ x ∷ ys)
-some_left [] h = absurd (omega arith)
-some_left (x ∷ xs) h = (x, xs, refl)
+-- the pieces of a text round its line feeds
+abbrev pub pieces_in : List ℕ → List (List ℕ)
+pieces_in bytes = slice_split (λ b. eqb b 10) bytes
 
--- at the last piece: it is empty, or a line without its line feed
-pub read_last : {S F : Type 0} (step : Steps S F) (unended : ℕ → F) (before : S) (k : ℕ) (pieces : Texts) (i : ℕ) (d : Bor (List ℕ)) → i + 1 ≡ length pieces
-    → read_from step unended before k (texts (drop i pieces))
-    ≡ cond (eqb (length ((get_or pieces i d).now)) 0) (Ok before) (Err (record { line = k; fault = unended k }))
+-- behind the last line feed: nothing, or a line without its line feed
+pub read_last : {S F : Type 0} (step : Steps S F) (unended : ℕ → F) (before : S) (k : ℕ) (rest : List ℕ) → cut_at 10 rest ≡ None
+    → read_from step unended before k (pieces_in rest) ≡ cond (eqb (length rest) 0) (Ok before) (Err (record { line = k; fault = unended k }))
 unfolding read_from
-read_last step unended before k pieces i d e = rw (one_left pieces i d e) refl
+read_last step unended before k rest e = rw (split_uncut 10 rest e) refl
 
--- at a piece before the last: it is a line
-pub read_more : {S F : Type 0} (step : Steps S F) (unended : ℕ → F) (before : S) (k : ℕ) (pieces : Texts) (i : ℕ) (d : Bor (List ℕ)) → i + 1 < length pieces
-    → read_from step unended before k (texts (drop i pieces))
-    ≡ at_line k (step before k ((get_or pieces i d).now)) (λ after. read_from step unended after (k + 1) (texts (drop (i + 1) pieces)))
+-- before a line feed: a line, and the rest
+pub read_more : {S F : Type 0} (step : Steps S F) (unended : ℕ → F) (before : S) (k : ℕ) (rest line others : List ℕ) → cut_at 10 rest ≡ Some (line, others)
+    → read_from step unended before k (pieces_in rest) ≡ at_line k (step before k line) (λ after. read_from step unended after (k + 1) (pieces_in others))
 unfolding read_from
-read_more step unended before k pieces i d lt =
-    let r = some_left (drop (i + 1) pieces) (omega (arith, length-drop (i + 1) pieces)) in
-    rw (drop_more pieces i d (omega arith), r.2) refl
+read_more step unended before k rest line others e = let some = split_some (λ b. eqb b 10) others in rw (split_cut 10 rest line others e, some.2) refl
 
 -- the same where the line has no fault
-pub read_next : {S F : Type 0} (step : Steps S F) (unended : ℕ → F) (before after : S) (k : ℕ) (pieces : Texts) (i : ℕ) (d : Bor (List ℕ)) → i + 1 < length pieces
-    → step before k ((get_or pieces i d).now) ≡ Ok after
-    → read_from step unended before k (texts (drop i pieces)) ≡ read_from step unended after (k + 1) (texts (drop (i + 1) pieces))
-read_next step unended before after k pieces i d lt e =
-    read_more step unended before k pieces i d lt ∙ ap (λ (r : Result _ _). at_line k r (λ after. read_from step unended after (k + 1) (texts (drop (i + 1) pieces)))) e
-
--- the same where the line has a fault
-pub read_fault : {S F : Type 0} (step : Steps S F) (unended : ℕ → F) (before : S) (k : ℕ) (fault : F) (pieces : Texts) (i : ℕ) (d : Bor (List ℕ)) → i + 1 < length pieces
-    → step before k ((get_or pieces i d).now) ≡ Err fault → read_from step unended before k (texts (drop i pieces)) ≡ Err (record { line = k; fault = fault })
-read_fault step unended before k fault pieces i d lt e =
-    read_more step unended before k pieces i d lt ∙ ap (λ (r : Result _ _). at_line k r (λ after. read_from step unended after (k + 1) (texts (drop (i + 1) pieces)))) e
-
--- past the last piece there is nothing left
-pub read_done : {S F : Type 0} (step : Steps S F) (unended : ℕ → F) (before : S) (k : ℕ) (pieces : Texts) (i : ℕ) → length pieces ≤ i
-    → read_from step unended before k (texts (drop i pieces)) ≡ Ok before
-unfolding read_from
-read_done step unended before k pieces i le = rw (nil_from_length (drop i pieces) (omega (arith, length-drop i pieces))) refl
+pub read_next : {S F : Type 0} (step : Steps S F) (unended : ℕ → F) (before after : S) (k : ℕ) (rest line others : List ℕ) → cut_at 10 rest ≡ Some (line, others)
+    → step before k line ≡ Ok after → read_from step unended before k (pieces_in rest) ≡ read_from step unended after (k + 1) (pieces_in others)
+read_next step unended before after k rest line others e is =
+    read_more step unended before k rest line others e ∙ ap (λ (r : Result _ _). at_line k r (λ after. read_from step unended after (k + 1) (pieces_in others))) is
 
 -- a fault of a line is the first fault of the text from there on
 pub refuses_then : {S F : Type 0} (error : LineError F) (k : ℕ) (r : Result S F) (more : S → Result S (Fault F)) (read : Result S (Fault F))

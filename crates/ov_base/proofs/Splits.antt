@@ -6,7 +6,7 @@ use Rattle.std.specs.Fmt.{decimal}
 use Rattle.std.specs.Str.Parse.{AllDigits}
 use Rattle.std.proofs.lemmas.Bool.{and_parts}
 use Rattle.std.proofs.lemmas.Bool.Decides.{eqb_tells}
-use Rattle.std.proofs.lemmas.List.{take-append-drop, drop_more, drop_all}
+use Rattle.std.proofs.lemmas.List.{take-append-drop, drop_more, drop_all, length-append}
 use Rattle.std.proofs.lemmas.Fmt.{digits_decimal}
 use Rattle.std.proofs.lemmas.Str.Parse.{digit_from_value, numerals_by_value, tells_digits}
 use Rattle.ov_base.specs.Split.{cut_at, lacks, onto, pair_of}
@@ -38,6 +38,10 @@ cut_takes b (x ∷ bytes) xs ys e =
       | inr p ↦ taken_more x (cut_at b bytes) (λ us vs. x ∷ bytes ≡ us ++ b ∷ vs) xs ys
           (λ us vs e. ap (λ (t : List ℕ). x ∷ t) (cut_takes b bytes us vs e)) (rw p.0 at e)
     ]
+
+-- behind a cut there is less
+pub cut_shorter : (b : ℕ) (bytes xs ys : List ℕ) → cut_at b bytes ≡ Some (xs, ys) → length ys < length bytes
+cut_shorter b bytes xs ys e = omega (arith, ap length (cut_takes b bytes xs ys e), length-append xs (b ∷ ys))
 
 digits_lack : (b : ℕ) (ds : List ℕ) → b < 48 → AllDigits 10 ds → lacks b ds ≡ true
 digits_lack b [] low h = refl

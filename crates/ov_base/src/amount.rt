@@ -8,7 +8,7 @@ ghost use Rattle.ov_base.specs.Lemmas.{amount_eq-equiv, amount_eq-exact};
 use crate::memory::Memory;
 use crate::number::parse_number;
 use crate::plain::Plain;
-use std::alloc::Global;
+use itoa::Buffer;
 use std::marker::Model;
 
 /// The greatest amount, `10^18`.
@@ -110,13 +110,12 @@ impl Amount {
     }
 
     /// Writes the one spelling at the end. On an error the text is as before.
-    pub fn print_to(&self, alloc: Global, text: &mut Vec<u8>) -> Result<(), Memory>
+    pub fn print_to(&self, text: &mut Vec<u8>) -> Result<(), Memory>
         ensures ok { OnOk result (text.new.items ≡ text.old.items ++ amount_text self.now) }
         ensures err { OnErr result (text.new.items ≡ text.old.items) }
     {
-        let number = self.number;
-        let digits = format!(in alloc; "{number}")?;
-        text.extend_from_slice(digits.as_bytes())?;
+        let mut digits = Buffer::new();
+        text.extend_from_slice(digits.format(self.number).as_bytes())?;
         Ok(())
     }
 }

@@ -1,8 +1,8 @@
 //! Texts of lines, each ended by a line feed: reading one line after the other, up to the first fault.
-ghost use Rattle.std.specs.Prelude.{◌≡◌, ◌==◌, ℕ, List, length, map, if◌then◌else◌, Result, Ok, Err};
-ghost use Rattle.ov_base.specs.Lines.{IsRead, TakesLine, read_from, read_text};
+ghost use Rattle.std.specs.Prelude.{◌≡◌, ◌==◌, ℕ, List, length, if◌then◌else◌, Result, Ok, Err};
+ghost use Rattle.ov_base.specs.Lines.{IsRead, TakesLine, read_text};
 
-use crate::split::parts_at;
+use crate::split::split_at_byte;
 use std::alloc::Global;
 
 /// Why a text of lines was not read.
@@ -49,37 +49,22 @@ pub fn read_lines<T: FromLines>(
 ) -> Result<T, LineError<T::Fault>>
     ensures { IsRead result (read_text T.taken T.unended empty text.now) }
 {
-    let pieces = match parts_at(alloc, text, b'\n') {
-        Ok(pieces) => pieces,
-        Err(_) => return Err(LineError::Memory),
-    };
-    read_pieces(alloc, empty, pieces.as_slice())
-}
-
-/// Reads the pieces round the line feeds.
-fn read_pieces<T: FromLines>(
-    alloc: Global,
-    empty: T,
-    pieces: &[&[u8]],
-) -> Result<T, LineError<T::Fault>>
-    ensures { IsRead result (read_from T.taken T.unended empty 1 (map (λ piece. piece.now) pieces.now)) }
-{
     let mut read = empty;
-    for (index, piece) in pieces.iter().enumerate() {
-        let line = index as u64 + 1;
-        if index + 1 == pieces.len() {
-            return ended(read, line, piece);
-        }
-        match read.take_line(alloc, line, piece) {
+    let mut line = 1;
+    let mut rest = text;
+    while let Some((ended, others)) = split_at_byte(rest, b'\n') {
+        match read.take_line(alloc, line, ended) {
             Ok(()) => {}
             Err(error) => return Err(error),
         }
+        line += 1;
+        rest = others;
     }
-    Ok(read)
+    last_read(read, line, rest)
 }
 
 /// What was read, where nothing stands behind the last line feed.
-fn ended<T: FromLines>(read: T, line: u64, last: &[u8]) -> Result<T, LineError<T::Fault>>
+fn last_read<T: FromLines>(read: T, line: u64, last: &[u8]) -> Result<T, LineError<T::Fault>>
     ensures { IsRead result (if length last.now == 0 then Ok read else Err (record { line = line; fault = T.unended line })) }
 {
     if last.is_empty() {

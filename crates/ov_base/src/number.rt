@@ -4,7 +4,7 @@ ghost use Rattle.ov_base.specs.Word.{Reads};
 ghost use Rattle.ov_base.specs.Number.{IsWord64, IsWithin, IsPlain, number_of, number_within};
 
 use crate::memory::Memory;
-use std::alloc::Global;
+use itoa::Buffer;
 use std::str;
 
 /// The number that the bytes spell, up to `2^64 - 1`. None exactly where they spell none.
@@ -58,11 +58,11 @@ fn within_read(low: u64, high: u64, text: &[u8]) -> Option<u64>
 }
 
 /// Writes the number's one spelling at the end. On an error the text is as before.
-pub fn print_number(alloc: Global, number: u64, text: &mut Vec<u8>) -> Result<(), Memory>
+pub fn print_number(number: u64, text: &mut Vec<u8>) -> Result<(), Memory>
     ensures ok { OnOk result (text.new.items ≡ text.old.items ++ decimal number) }
     ensures err { OnErr result (text.new.items ≡ text.old.items) }
 {
-    let digits = format!(in alloc; "{number}")?;
-    text.extend_from_slice(digits.as_bytes())?;
+    let mut digits = Buffer::new();
+    text.extend_from_slice(digits.format(number).as_bytes())?;
     Ok(())
 }

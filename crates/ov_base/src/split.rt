@@ -5,7 +5,10 @@ ghost use Rattle.std.specs.Option.{option_map};
 ghost use Rattle.ov_base.specs.Split.{cut_at};
 
 use crate::memory::Memory;
-use std::alloc::{AllocError, Global};
+use std::alloc::Global;
+
+/// For so many parts there is room from the start.
+const FEW_PARTS: usize = 16;
 
 /// What stands before the first such byte, and what stands behind it; None exactly where the byte does
 /// not occur. Does not allocate.
@@ -20,15 +23,16 @@ pub fn split_at_byte(text: &[u8], byte: u8) -> Option<(&[u8], &[u8])>
     None
 }
 
-/// The parts round a byte, of which there is one more than the byte occurs.
+/// The parts round a byte, of which there is one more than the byte occurs. The only error is out of memory.
 pub fn parts_at(alloc: Global, text: &[u8], byte: u8) -> Result<Vec<&[u8]>, Memory>
     ensures { IfOk result (λ v. map (λ x. x.now) v.items ≡ slice_split (λ b. b == byte) text.now) }
 {
-    Ok(collected_parts(alloc, text, byte)?)
-}
-
-fn collected_parts(alloc: Global, text: &[u8], byte: u8) -> Result<Vec<&[u8]>, AllocError>
-    ensures { IfOk result (λ v. map (λ x. x.now) v.items ≡ slice_split (λ b. b == byte) text.now) }
-{
-    text.split(|b| *b == byte).collect(alloc)
+    let mut parts = Vec::with_capacity(alloc, FEW_PARTS)?;
+    let mut rest = text;
+    while let Some((part, others)) = split_at_byte(rest, byte) {
+        parts.push(part)?;
+        rest = others;
+    }
+    parts.push(rest)?;
+    Ok(parts)
 }

@@ -7,7 +7,6 @@ ghost use Rattle.ov_base.specs.Word.{Reads};
 use crate::amount::Amount;
 use crate::memory::Memory;
 use crate::plain::Plain;
-use std::alloc::Global;
 
 /// What a key has: nothing, or an amount (docs/STORE.md, Values).
 #[derive(Clone, Copy, Debug, PartialEq, Eq)]
@@ -39,13 +38,13 @@ impl Value {
     }
 
     /// Writes the one spelling at the end: `absent`, or the amount. On an error the text is as before.
-    pub fn print_to(&self, alloc: Global, text: &mut Vec<u8>) -> Result<(), Memory>
+    pub fn print_to(&self, text: &mut Vec<u8>) -> Result<(), Memory>
         ensures ok { OnOk result (text.new.items ≡ text.old.items ++ value_text self.now) }
         ensures err { OnErr result (text.new.items ≡ text.old.items) }
     {
         match self {
             Value::Absent => Ok(text.extend_from_slice(b"absent")?),
-            Value::Number(amount) => amount.print_to(alloc, text),
+            Value::Number(amount) => amount.print_to(text),
         }
     }
 }

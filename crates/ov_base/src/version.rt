@@ -5,13 +5,12 @@ ghost use Rattle.std.specs.Cmp.{partial_equiv_from_equiv, nat_cmp_total};
 ghost use Rattle.ov_base.specs.Lemmas.{number_eq-equiv, number_eq-order, number_eq-ties, number_eq-exact};
 ghost use Rattle.ov_base.specs.Number.{number_eq};
 ghost use Rattle.ov_base.specs.Version.{number, time_of, gate_of, time_limit, gate_limit, version_text, version_of, IsVersion};
-ghost use Rattle.ov_base.specs.Word.{Reads};
+ghost use Rattle.ov_base.specs.Word.{Reads, Printed};
 
 use crate::memory::Memory;
-use crate::number::parse_number;
+use crate::number::{parse_number, print_number};
 use crate::plain::Plain;
 use crate::split::split_at_byte;
-use std::alloc::Global;
 use std::cmp::Ordering;
 use std::marker::Model;
 
@@ -107,24 +106,35 @@ impl Version {
     }
 
     /// Writes the one spelling, `TIME.GATE`, at the end. On an error the text is as before.
-    pub fn print_to(self, alloc: Global, text: &mut Vec<u8>) -> Result<(), Memory>
+    pub fn print_to(self, text: &mut Vec<u8>) -> Result<(), Memory>
         ensures ok { OnOk result (text.new.items ≡ text.old.items ++ version_text self) }
         ensures err { OnErr result (text.new.items ≡ text.old.items) }
     {
-        print_mark(alloc, self.number(), text)
+        print_mark(self.number(), text)
     }
 }
 
 /// Writes a mark or a watermark, which are numbers of versions, in the spelling of versions at the end. On
 /// an error the text is as before.
-pub fn print_mark(alloc: Global, mark: u64, text: &mut Vec<u8>) -> Result<(), Memory>
+pub fn print_mark(mark: u64, text: &mut Vec<u8>) -> Result<(), Memory>
     ensures ok { OnOk result (text.new.items ≡ text.old.items ++ version_text mark) }
     ensures err { OnErr result (text.new.items ≡ text.old.items) }
 {
-    let (time, gate) = (mark / GATE_LIMIT, mark % GATE_LIMIT);
-    let word = format!(in alloc; "{time}.{gate}")?;
-    text.extend_from_slice(word.as_bytes())?;
-    Ok(())
+    let before = text.len();
+    let printed = print_parts(mark, text);
+    if printed.is_err() {
+        text.truncate(before);
+    }
+    printed
+}
+
+/// The same, where on an error a prefix of the spelling was written.
+fn print_parts(mark: u64, text: &mut Vec<u8>) -> Result<(), Memory>
+    ensures { Printed result text.old.items text.new.items (version_text mark) }
+{
+    print_number(mark / GATE_LIMIT, text)?;
+    text.push(b'.')?;
+    print_number(mark % GATE_LIMIT, text)
 }
 
 #[tactic(auto, unfolding(crate::specs::Version::version_of))]
