@@ -14,7 +14,8 @@ pub with_front_none : {B : Type 0} (rest : Option (List B)) → with_front [] re
 with_front_none None = refl
 with_front_none (Some ys) = refl
 
-front_then : {B : Type 0} (front : List B) (y : B) (rest : Option (List B)) → with_front front (rest >>= λ ys. Some (y ∷ ys)) ≡ with_front (front ++ y ∷ []) rest
+-- a value behind those in front
+pub front_then : {B : Type 0} (front : List B) (y : B) (rest : Option (List B)) → with_front front (rest >>= λ ys. Some (y ∷ ys)) ≡ with_front (front ++ y ∷ []) rest
 front_then front y None = refl
 front_then front y (Some ys) = ap (λ (t : _). Some t) (sym (append_assoc front (y ∷ []) ys))
 

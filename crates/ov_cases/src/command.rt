@@ -27,7 +27,7 @@ pub fn outcome(rt: &HostRuntime, words: &str, case: &Case) -> Result<Vec<u8>, Ca
     let mut story = Story::empty(alloc);
     let status = stepped_top(alloc, words.as_slice(), &mut shelf, &mut sink, &mut story);
     let mut outcome = Vec::from_slice(alloc, b"status ")?;
-    print_number(alloc, u64::from(status), &mut outcome)?;
+    print_number(u64::from(status), &mut outcome)?;
     outcome.push(b'\n')?;
     outcome.extend_from_slice(sink.written())?;
     Ok(outcome)

@@ -22,7 +22,7 @@ pub fn outcome(alloc: Global, kind: &str, case: &Case) -> Result<Vec<u8>, CaseFa
         ("topology", None) => print_topology(alloc, text.as_slice(), &mut printed)?,
         ("schedule", None) => print_schedule(alloc, text.as_slice(), &mut printed)?,
         ("journal", None) => print_journal(alloc, text.as_slice(), &mut printed)?,
-        ("words", None) => print_words(alloc, text.as_slice(), &mut printed)?,
+        ("words", None) => print_words(text.as_slice(), &mut printed)?,
         (_, Some(gateways)) => match gateways.parse::<u32>() {
             Ok(gateways) => print_script(alloc, text.as_slice(), gateways, &mut printed)?,
             Err(_) => return Err(case.head_fault()),
@@ -39,9 +39,9 @@ pub fn outcome(alloc: Global, kind: &str, case: &Case) -> Result<Vec<u8>, CaseFa
 /// Prints the topology of a document, or its fault line.
 fn print_topology(alloc: Global, text: &[u8], printed: &mut Vec<u8>) -> Result<(), Memory> {
     match Topology::read(alloc, text) {
-        Ok(topology) => print_values(alloc, &topology, printed),
+        Ok(topology) => print_values(&topology, printed),
         Err(fault) => {
-            fault.print_to(alloc, printed)?;
+            fault.print_to(printed)?;
             end_line(printed)
         }
     }
@@ -59,7 +59,7 @@ fn print_values(alloc: Global, topology: &Topology, printed: &mut Vec<u8>) -> Re
 fn print_value(alloc: Global, name: &str, value: u32, printed: &mut Vec<u8>) -> Result<(), Memory> {
     printed.extend_from_slice(name.as_bytes())?;
     printed.extend_from_slice(b" = ")?;
-    print_number(alloc, u64::from(value), printed)?;
+    print_number(u64::from(value), printed)?;
     end_line(printed)
 }
 
@@ -69,7 +69,7 @@ fn print_gateways(alloc: Global, topology: &Topology, printed: &mut Vec<u8>) -> 
         if gate > 0 {
             printed.extend_from_slice(b", ")?;
         }
-        print_number(alloc, u64::from(topology.centre_of(gate)), printed)?;
+        print_number(u64::from(topology.centre_of(gate)), printed)?;
     }
     printed.push(b']')?;
     end_line(printed)
@@ -83,9 +83,9 @@ fn print_script(
     printed: &mut Vec<u8>,
 ) -> Result<(), Memory> {
     match Script::read(alloc, text, gateways) {
-        Ok(script) => script.print_to(alloc, printed),
+        Ok(script) => script.print_to(printed),
         Err(fault) => {
-            fault.print_to(alloc, printed)?;
+            fault.print_to(printed)?;
             end_line(printed)
         }
     }
@@ -94,9 +94,9 @@ fn print_script(
 /// Prints the schedule of a text, or its fault line.
 fn print_schedule(alloc: Global, text: &[u8], printed: &mut Vec<u8>) -> Result<(), Memory> {
     match Schedule::read(alloc, text) {
-        Ok(schedule) => schedule.print_to(alloc, printed),
+        Ok(schedule) => schedule.print_to(printed),
         Err(fault) => {
-            fault.print_to(alloc, printed)?;
+            fault.print_to(printed)?;
             end_line(printed)
         }
     }
@@ -109,7 +109,7 @@ fn print_journal(alloc: Global, text: &[u8], printed: &mut Vec<u8>) -> Result<()
         Err(JournalError::Memory) => Err(Memory),
         Err(JournalError::Line(line)) => {
             printed.extend_from_slice(b"journal: line ")?;
-            print_number(alloc, line, printed)?;
+            print_number(line, printed)?;
             end_line(printed)
         }
     }
@@ -132,9 +132,9 @@ fn print_words(alloc: Global, text: &[u8], printed: &mut Vec<u8>) -> Result<(), 
     if let Some(entry) = parse_entry(alloc, line)? {
         print_entry(alloc, &entry, printed)?;
     } else if let Some(items) = parse_items(alloc, line)? {
-        print_items(alloc, items.as_slice(), printed)?;
+        print_items(items.as_slice(), printed)?;
     } else if let Some(reply) = Reply::parse(alloc, line)? {
-        reply.print_to(alloc, printed)?;
+        reply.print_to(printed)?;
     } else {
         printed.extend_from_slice(b"none")?;
     }

@@ -215,32 +215,31 @@ fn sides_read(from: &[u8], to: &[u8], amount: &[u8]) -> Option<Move>
 }
 
 /// Writes the items at the end, each behind ` ; `. On an error a prefix of that text was written.
-pub fn print_items(alloc: Global, items: &[Item], text: &mut Vec<u8>) -> Result<(), Memory>
+pub fn print_items(items: &[Item], text: &mut Vec<u8>) -> Result<(), Memory>
     ensures { Printed result text.old.items text.new.items (items_text items.now) }
 {
     for item in items {
-        print_item(alloc, item, text)?;
+        print_item(item, text)?;
     }
     Ok(())
 }
 
-fn print_item(alloc: Global, item: &Item, text: &mut Vec<u8>) -> Result<(), Memory>
+fn print_item(item: &Item, text: &mut Vec<u8>) -> Result<(), Memory>
     ensures { Printed result text.old.items text.new.items (item_text item.now) }
 {
     text.extend_from_slice(b" ; ")?;
-    print_words(alloc, item, text)
+    print_words(item, text)
 }
 
-fn print_words(alloc: Global, item: &Item, text: &mut Vec<u8>) -> Result<(), Memory>
+fn print_words(item: &Item, text: &mut Vec<u8>) -> Result<(), Memory>
     ensures { Printed result text.old.items text.new.items (joined 32 (item_words item.now)) }
 {
-    print_fields(alloc, item.version, &item.key, item.functor.effect(), text)?;
-    print_moves(alloc, item.functor.moves(), text)
+    print_fields(item.version, &item.key, item.functor.effect(), text)?;
+    print_moves(item.functor.moves(), text)
 }
 
 /// Writes a version, a key and an effect.
 fn print_fields(
-    alloc: Global,
     version: Version,
     key: &Key,
     effect: Effect,
@@ -248,72 +247,72 @@ fn print_fields(
 ) -> Result<(), Memory>
     ensures { Printed result text.old.items text.new.items (spec.fields_text version key.now effect) }
 {
-    version.print_to(alloc, text)?;
-    print_behind(alloc, key, effect, text)
+    version.print_to(text)?;
+    print_behind(key, effect, text)
 }
 
 /// Writes a key and an effect, each behind a space.
-fn print_behind(alloc: Global, key: &Key, effect: Effect, text: &mut Vec<u8>) -> Result<(), Memory>
+fn print_behind(key: &Key, effect: Effect, text: &mut Vec<u8>) -> Result<(), Memory>
     ensures { Printed result text.old.items text.new.items (32 ∷ key.now ++ 32 ∷ effect_text effect) }
 {
     text.push(b' ')?;
     text.extend_from_slice(key.bytes())?;
     text.push(b' ')?;
-    print_effect(alloc, effect, text)
+    print_effect(effect, text)
 }
 
-fn print_effect(alloc: Global, effect: Effect, text: &mut Vec<u8>) -> Result<(), Memory>
+fn print_effect(effect: Effect, text: &mut Vec<u8>) -> Result<(), Memory>
     ensures { Printed result text.old.items text.new.items (effect_text effect) }
 {
     match effect {
-        Effect::Put(amount) => print_named(alloc, b"put ", amount, text),
+        Effect::Put(amount) => print_named(b"put ", amount, text),
         Effect::Del => Ok(text.extend_from_slice(b"del")?),
-        Effect::Add(amount) => print_named(alloc, b"add ", amount, text),
-        Effect::Least(amount) => print_named(alloc, b"least ", amount, text),
-        Effect::Greatest(amount) => print_named(alloc, b"greatest ", amount, text),
-        Effect::Out(amount) => print_named(alloc, b"out ", amount, text),
-        Effect::In(amount) => print_named(alloc, b"in ", amount, text),
+        Effect::Add(amount) => print_named(b"add ", amount, text),
+        Effect::Least(amount) => print_named(b"least ", amount, text),
+        Effect::Greatest(amount) => print_named(b"greatest ", amount, text),
+        Effect::Out(amount) => print_named(b"out ", amount, text),
+        Effect::In(amount) => print_named(b"in ", amount, text),
     }
 }
 
-fn print_named(alloc: Global, word: &[u8], amount: Amount, text: &mut Vec<u8>) -> Result<(), Memory>
+fn print_named(word: &[u8], amount: Amount, text: &mut Vec<u8>) -> Result<(), Memory>
     ensures { Printed result text.old.items text.new.items (word.now ++ amount_text amount) }
 {
     text.extend_from_slice(word)?;
-    amount.print_to(alloc, text)
+    amount.print_to(text)
 }
 
-fn print_moves(alloc: Global, moves: &[Move], text: &mut Vec<u8>) -> Result<(), Memory>
+fn print_moves(moves: &[Move], text: &mut Vec<u8>) -> Result<(), Memory>
     ensures { Printed result text.old.items text.new.items (flat_map move_text moves.now) }
 {
     for one in moves {
-        print_move(alloc, one, text)?;
+        print_move(one, text)?;
     }
     Ok(())
 }
 
-fn print_move(alloc: Global, one: &Move, text: &mut Vec<u8>) -> Result<(), Memory>
+fn print_move(one: &Move, text: &mut Vec<u8>) -> Result<(), Memory>
     ensures { Printed result text.old.items text.new.items (move_text one.now) }
 {
     text.extend_from_slice(b" if ")?;
-    print_sides(alloc, one, text)
+    print_sides(one, text)
 }
 
-fn print_sides(alloc: Global, one: &Move, text: &mut Vec<u8>) -> Result<(), Memory>
+fn print_sides(one: &Move, text: &mut Vec<u8>) -> Result<(), Memory>
     ensures { Printed result text.old.items text.new.items (joined 32 (one.now.from ∷ one.now.to ∷ amount_text one.now.amount ∷ [])) }
 {
     text.extend_from_slice(one.from.bytes())?;
-    print_getter(alloc, one, text)
+    print_getter(one, text)
 }
 
 /// Writes the key that gets, and the amount, each behind a space.
-fn print_getter(alloc: Global, one: &Move, text: &mut Vec<u8>) -> Result<(), Memory>
+fn print_getter(one: &Move, text: &mut Vec<u8>) -> Result<(), Memory>
     ensures { Printed result text.old.items text.new.items (32 ∷ one.now.to ++ 32 ∷ amount_text one.now.amount) }
 {
     text.push(b' ')?;
     text.extend_from_slice(one.to.bytes())?;
     text.push(b' ')?;
-    one.amount.print_to(alloc, text)
+    one.amount.print_to(text)
 }
 
 /// Whether the item has a text: its functor is one of its key, and on the form of functors.

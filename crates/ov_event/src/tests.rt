@@ -40,7 +40,7 @@ fn write_addressees(
     for actor in 0..topology.actors() {
         if is_sent_to(topology, entry, number, actor)? {
             text.push(b' ')?;
-            print_number(alloc, u64::from(actor), text)?;
+            print_number(u64::from(actor), text)?;
         }
     }
     Ok(())

@@ -6,7 +6,6 @@ ghost use Rattle.ov_functor.specs.Reply.{reply_text, reply_by, showns_text, show
 
 use crate::item::Shown;
 use ov_base::{Memory, Plain, Sequence, Version, print_mark};
-use std::alloc::Global;
 
 /// What a command returns (docs/STORE.md, Replies).
 #[derive(Debug, PartialEq, Eq, Drop)]
@@ -30,25 +29,24 @@ pub enum Reply {
 
 impl Reply {
     /// Writes the one spelling at the end (docs/FORMATS.md, Replies). On an error a prefix of it was written.
-    pub fn print_to(&self, alloc: Global, text: &mut Vec<u8>) -> Result<(), Memory>
+    pub fn print_to(&self, text: &mut Vec<u8>) -> Result<(), Memory>
         ensures { Printed result text.old.items text.new.items (reply_text self.now) }
     {
         match self {
             Reply::Done { version, gets } => {
-                print_reply(alloc, b"done ", version.number(), gets.as_slice(), text)
+                print_reply(b"done ", version.number(), gets.as_slice(), text)
             }
             Reply::Aborted { version, gets } => {
-                print_reply(alloc, b"aborted ", version.number(), gets.as_slice(), text)
+                print_reply(b"aborted ", version.number(), gets.as_slice(), text)
             }
             Reply::Snap { watermark, shown } => {
-                print_reply(alloc, b"snap ", *watermark, shown.as_slice(), text)
+                print_reply(b"snap ", *watermark, shown.as_slice(), text)
             }
         }
     }
 }
 
 fn print_reply(
-    alloc: Global,
     word: &[u8],
     mark: u64,
     list: &[Shown],
@@ -57,26 +55,26 @@ fn print_reply(
     ensures { Printed result text.old.items text.new.items (reply_by word.now mark list.now) }
 {
     text.extend_from_slice(word)?;
-    print_mark(alloc, mark, text)?;
-    print_showns(alloc, list, text)
+    print_mark(mark, text)?;
+    print_showns(list, text)
 }
 
-fn print_showns(alloc: Global, list: &[Shown], text: &mut Vec<u8>) -> Result<(), Memory>
+fn print_showns(list: &[Shown], text: &mut Vec<u8>) -> Result<(), Memory>
     ensures { Printed result text.old.items text.new.items (showns_text list.now) }
 {
     for shown in list {
-        print_shown(alloc, shown, text)?;
+        print_shown(shown, text)?;
     }
     Ok(())
 }
 
-fn print_shown(alloc: Global, shown: &Shown, text: &mut Vec<u8>) -> Result<(), Memory>
+fn print_shown(shown: &Shown, text: &mut Vec<u8>) -> Result<(), Memory>
     ensures { Printed result text.old.items text.new.items (shown_text shown.now) }
 {
     text.push(b' ')?;
     text.extend_from_slice(shown.key.bytes())?;
     text.push(b'=')?;
-    shown.value.print_to(alloc, text)
+    shown.value.print_to(text)
 }
 
 impl Plain for Reply {

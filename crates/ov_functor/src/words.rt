@@ -129,45 +129,45 @@ fn move_between(from: Key, to: Key, amount: Amount) -> Option<Part>
 
 /// Writes the parts at the end, with ` ; ` between them (docs/FORMATS.md, Parts); no part writes nothing. On
 /// an error a prefix of that text was written.
-pub fn print_parts(alloc: Global, parts: &[Part], text: &mut Vec<u8>) -> Result<(), Memory>
+pub fn print_parts(parts: &[Part], text: &mut Vec<u8>) -> Result<(), Memory>
     ensures { Printed result text.old.items text.new.items (parts_text parts.now) }
 {
     match parts {
         [] => Ok(()),
         [first, others @ ..] => {
-            print_part(alloc, first, text)?;
-            print_further(alloc, others, text)
+            print_part(first, text)?;
+            print_further(others, text)
         }
     }
 }
 
-fn print_further(alloc: Global, parts: &[Part], text: &mut Vec<u8>) -> Result<(), Memory>
+fn print_further(parts: &[Part], text: &mut Vec<u8>) -> Result<(), Memory>
     ensures { Printed result text.old.items text.new.items (flat_map further_text parts.now) }
 {
     for part in parts {
-        print_separated(alloc, part, text)?;
+        print_separated(part, text)?;
     }
     Ok(())
 }
 
 /// Writes the part behind ` ; `.
-fn print_separated(alloc: Global, part: &Part, text: &mut Vec<u8>) -> Result<(), Memory>
+fn print_separated(part: &Part, text: &mut Vec<u8>) -> Result<(), Memory>
     ensures { Printed result text.old.items text.new.items (further_text part.now) }
 {
     text.extend_from_slice(b" ; ")?;
-    print_part(alloc, part, text)
+    print_part(part, text)
 }
 
-fn print_part(alloc: Global, part: &Part, text: &mut Vec<u8>) -> Result<(), Memory>
+fn print_part(part: &Part, text: &mut Vec<u8>) -> Result<(), Memory>
     ensures { Printed result text.old.items text.new.items (part_text part.now) }
 {
     match part {
-        Part::Put { key, amount } => print_with(alloc, b"put", key, amount, text),
+        Part::Put { key, amount } => print_with(b"put", key, amount, text),
         Part::Del { key } => print_on(b"del", key, text),
-        Part::Add { key, amount } => print_with(alloc, b"add", key, amount, text),
-        Part::Least { key, amount } => print_with(alloc, b"least", key, amount, text),
-        Part::Greatest { key, amount } => print_with(alloc, b"greatest", key, amount, text),
-        Part::Move { from, to, amount } => print_move(alloc, from, to, amount, text),
+        Part::Add { key, amount } => print_with(b"add", key, amount, text),
+        Part::Least { key, amount } => print_with(b"least", key, amount, text),
+        Part::Greatest { key, amount } => print_with(b"greatest", key, amount, text),
+        Part::Move { from, to, amount } => print_move(from, to, amount, text),
         Part::Get { key } => print_on(b"get", key, text),
     }
 }
@@ -180,7 +180,6 @@ fn print_on(word: &[u8], key: &Key, text: &mut Vec<u8>) -> Result<(), Memory>
 }
 
 fn print_with(
-    alloc: Global,
     word: &[u8],
     key: &Key,
     amount: &Amount,
@@ -189,11 +188,10 @@ fn print_with(
     ensures { Printed result text.old.items text.new.items (joined 32 (word.now ∷ key.now ∷ amount_text amount.now ∷ [])) }
 {
     text.extend_from_slice(word)?;
-    print_valued(alloc, key, amount, text)
+    print_valued(key, amount, text)
 }
 
 fn print_move(
-    alloc: Global,
     from: &Key,
     to: &Key,
     amount: &Amount,
@@ -202,17 +200,17 @@ fn print_move(
     ensures { Printed result text.old.items text.new.items (part_text (Part.Move from.now to.now amount.now)) }
 {
     print_on(b"move", from, text)?;
-    print_valued(alloc, to, amount, text)
+    print_valued(to, amount, text)
 }
 
 /// Writes the key and the amount, each behind a space.
-fn print_valued(alloc: Global, key: &Key, amount: &Amount, text: &mut Vec<u8>) -> Result<(), Memory>
+fn print_valued(key: &Key, amount: &Amount, text: &mut Vec<u8>) -> Result<(), Memory>
     ensures { Printed result text.old.items text.new.items (32 ∷ key.now ++ 32 ∷ amount_text amount.now) }
 {
     text.push(b' ')?;
     text.extend_from_slice(key.bytes())?;
     text.push(b' ')?;
-    amount.print_to(alloc, text)
+    amount.print_to(text)
 }
 
 /// Writes the key behind a space.

@@ -1,11 +1,10 @@
 -- Reading lists of groups that code keeps, and the parts of a beginning.
-use Rattle.std.proofs.Common.{◌≡◌, ℕ, ◌+◌, ◌<◌, true, List, [], ◌∷◌, ◌++◌, length, get_or, drop, Option, Some, None, Bor, refl, sym, ap, append_assoc}
+use Rattle.std.proofs.Common.{◌≡◌, ℕ, ◌+◌, ◌<◌, true, List, [], ◌∷◌, ◌++◌, length, get_or, drop, Option, Some, None, Bor, refl}
 use Rattle.std.specs.List.{list_all}
 use Rattle.std.proofs.lemmas.List.{drop_more}
-use Rattle.ov_base.specs.Word.{◌>>=◌}
 use Rattle.ov_base.specs.Groups.{groups_in, words_in}
 use Rattle.ov_base.specs.Split.{all_of, with_front}
-use Rattle.ov_base.proofs.Traverse.{all_of_takes}
+use Rattle.ov_base.proofs.Traverse.{all_of_takes, front_then}
 use Rattle.ov_functor.specs.Transaction.{is_positive}
 use Rattle.ov_functor.specs.Words.{IsPart, part_of, part_words, parts_in}
 use Rattle.ov_functor.specs.declared.part.Part.{Part}
@@ -20,15 +19,11 @@ Group = Bor (List (Bor (List ℕ)))
 abbrev pub no_group : Group
 no_group = record { ref_ptr = (0, 0); now = [] }
 
-front_more : {B : Type 0} (front : List B) (y : B) (rest : Option (List B)) → with_front front (rest >>= λ ys. Some (y ∷ ys)) ≡ with_front (front ++ y ∷ []) rest
-front_more front y None = refl
-front_more front y (Some ys) = ap (λ (t : _). Some t) (sym (append_assoc front (y ∷ []) ys))
-
 -- the next group was read
 pub groups_next : {B : Type 0} (f : List (List ℕ) → Option B) (groups : List Group) (i : ℕ) (d : Group) (y : B) (front : List B)
     → i < length groups → f (words_in ((get_or groups i d).now)) ≡ Some y
     → with_front front (all_of f (groups_in (drop i groups))) ≡ with_front (front ++ y ∷ []) (all_of f (groups_in (drop (i + 1) groups)))
-groups_next f groups i d y front lt e = rw (drop_more groups i d lt, e) (front_more front y (all_of f (groups_in (drop (i + 1) groups))))
+groups_next f groups i d y front lt e = rw (drop_more groups i d lt, e) (front_then front y (all_of f (groups_in (drop (i + 1) groups))))
 
 -- the moves of parts that are read are of at least 1
 pub read_positive : (groups : List (List (List ℕ))) (parts : List Part) → parts_in groups ≡ Some parts → list_all is_positive parts ≡ true

@@ -9,7 +9,7 @@ ghost use Rattle.ov_journal.specs.Line.{HasLine, entry_text};
 
 use crate::error::JournalError;
 use crate::line::entry_read;
-use crate::print::line_of;
+use crate::print::print_into;
 use ov_base::{FromLines, LineError, Memory, Sequence, read_lines};
 use ov_event::Entry;
 use ov_io::{ReportError, Sink, put_text};
@@ -140,8 +140,9 @@ fn put_entries<K: Sink>(alloc: Global, entries: &[Entry], out: &mut K) -> Result
     ensures failed { IsErrOf result ReportError.WriteFault → Rose (K.faults out.old) (K.faults out.new) }
     ensures later { K.faults out.old ≤ K.faults out.new }
 {
+    let mut line = Vec::new(alloc);
     for entry in entries {
-        match put_entry(alloc, entry, out) {
+        match put_entry(alloc, entry, &mut line, out) {
             Ok(()) => {}
             Err(error) => return Err(error),
         }
@@ -149,25 +150,31 @@ fn put_entries<K: Sink>(alloc: Global, entries: &[Entry], out: &mut K) -> Result
     Ok(())
 }
 
-fn put_entry<K: Sink>(alloc: Global, entry: &Entry, out: &mut K) -> Result<(), ReportError>
+/// Writes the line of the entry, with its line feed, by way of these bytes.
+fn put_entry<K: Sink>(
+    alloc: Global,
+    entry: &Entry,
+    line: &mut Vec<u8>,
+    out: &mut K,
+) -> Result<(), ReportError>
     requires { HasLine entry.now }
     ensures ok { OnOk result (Wrote (K.written out.old) (K.written out.new) (entry_text entry.now ++ 10 ∷ [])) }
     ensures err { OnErr result (WroteFront (K.written out.old) (K.written out.new) (entry_text entry.now ++ 10 ∷ [])) }
     ensures failed { IsErrOf result ReportError.WriteFault → Rose (K.faults out.old) (K.faults out.new) }
     ensures later { K.faults out.old ≤ K.faults out.new }
 {
-    match ended_line(alloc, entry) {
+    match end_line(entry, line) {
         Err(_) => Err(ReportError::Memory),
-        Ok(line) => put_text(alloc, line.as_slice(), out),
+        Ok(()) => put_text(alloc, line.as_slice(), out),
     }
 }
 
-/// The line of the entry, with its line feed.
-fn ended_line(alloc: Global, entry: &Entry) -> Result<Vec<u8>, Memory>
+/// Makes these bytes the line of the entry, with its line feed.
+fn end_line(entry: &Entry, line: &mut Vec<u8>) -> Result<(), Memory>
     requires { HasLine entry.now }
-    ensures { IfOk result (λ line. line.items ≡ entry_text entry.now ++ 10 ∷ []) }
+    ensures { OnOk result (line.new.items ≡ entry_text entry.now ++ 10 ∷ []) }
 {
-    let mut line = line_of(alloc, entry)?;
+    print_into(entry, line)?;
     line.push(b'\n')?;
-    Ok(line)
+    Ok(())
 }

@@ -22,36 +22,36 @@ pub fn print_entry(alloc: Global, entry: &Entry, text: &mut Vec<u8>) -> Result<(
     requires { HasLine entry.now }
     ensures { Printed result text.old.items text.new.items (entry_text entry.now) }
 {
-    let line = line_of(alloc, entry)?;
+    let mut line = Vec::new(alloc);
+    print_into(entry, &mut line)?;
     text.extend_from_slice(line.as_slice())?;
     Ok(())
 }
 
-/// The line of the entry, without its line feed.
-pub(crate) fn line_of(alloc: Global, entry: &Entry) -> Result<Vec<u8>, Memory>
+/// Makes the text the line of the entry, without its line feed.
+pub(crate) fn print_into(entry: &Entry, line: &mut Vec<u8>) -> Result<(), Memory>
     requires { HasLine entry.now }
-    ensures { IfOk result (λ line. line.items ≡ entry_text entry.now) }
+    ensures { OnOk result (line.new.items ≡ entry_text entry.now) }
 {
-    let mut line = Vec::new(alloc);
-    entry.actor.print_to(alloc, &mut line)?;
+    line.clear();
+    entry.actor.print_to(line)?;
     line.push(b' ')?;
-    print_kind(alloc, &entry.actor, &entry.kind, &mut line)?;
-    Ok(line)
+    print_kind(&entry.actor, &entry.kind, line)
 }
 
 /// Writes what stands behind the word of the actor.
-fn print_kind(alloc: Global, actor: &Actor, kind: &Kind, text: &mut Vec<u8>) -> Result<(), Memory>
+fn print_kind(actor: &Actor, kind: &Kind, text: &mut Vec<u8>) -> Result<(), Memory>
     requires { IsBy actor.now kind.now }
     ensures { OnOk result (text.new.items ≡ text.old.items ++ kind_text kind.now) }
 {
     match actor {
-        Actor::Gate(_) => print_gate_kind(alloc, kind, text),
-        Actor::Node { .. } => print_node_kind(alloc, kind, text),
-        Actor::Settler(_) => print_settler_kind(alloc, kind, text),
+        Actor::Gate(_) => print_gate_kind(kind, text),
+        Actor::Node { .. } => print_node_kind(kind, text),
+        Actor::Settler(_) => print_settler_kind(kind, text),
     }
 }
 
-fn print_gate_kind(alloc: Global, kind: &Kind, text: &mut Vec<u8>) -> Result<(), Memory>
+fn print_gate_kind(kind: &Kind, text: &mut Vec<u8>) -> Result<(), Memory>
     requires { IsOfGate kind.now }
     ensures { OnOk result (text.new.items ≡ text.old.items ++ kind_text kind.now) }
 {
@@ -60,32 +60,32 @@ fn print_gate_kind(alloc: Global, kind: &Kind, text: &mut Vec<u8>) -> Result<(),
             session,
             seq,
             start,
-        } => print_began(alloc, *session, *seq, start, text),
+        } => print_began(*session, *seq, start, text),
         Kind::Acked {
             place,
             version,
             centre,
             part,
-        } => print_acked(alloc, place, *version, *centre, *part, text),
-        Kind::Published { time, vector } => print_published(alloc, *time, vector, text),
-        Kind::Heard { place, vector } => print_heard(alloc, place, vector, text),
+        } => print_acked(place, *version, *centre, *part, text),
+        Kind::Published { time, vector } => print_published(*time, vector, text),
+        Kind::Heard { place, vector } => print_heard(place, vector, text),
         Kind::Replied {
             place,
             session,
             seq,
             reply,
-        } => print_replied(alloc, place, *session, *seq, reply, text),
+        } => print_replied(place, *session, *seq, reply, text),
         Kind::Told {
             place,
             session,
             seq,
-        } => print_told(alloc, place, *session, *seq, text),
+        } => print_told(place, *session, *seq, text),
         Kind::Stopped => print_stopped(text),
         _ => unreachable!(),
     }
 }
 
-fn print_node_kind(alloc: Global, kind: &Kind, text: &mut Vec<u8>) -> Result<(), Memory>
+fn print_node_kind(kind: &Kind, text: &mut Vec<u8>) -> Result<(), Memory>
     requires { IsOfNode kind.now }
     ensures { OnOk result (text.new.items ≡ text.old.items ++ kind_text kind.now) }
 {
@@ -94,45 +94,45 @@ fn print_node_kind(alloc: Global, kind: &Kind, text: &mut Vec<u8>) -> Result<(),
             place,
             version,
             items,
-        } => print_stored(alloc, place, *version, items.as_slice(), text),
+        } => print_stored(place, *version, items.as_slice(), text),
         Kind::Answered {
             place,
             settler,
             round,
             items,
-        } => print_answered(alloc, place, *settler, *round, items.as_slice(), text),
+        } => print_answered(place, *settler, *round, items.as_slice(), text),
         Kind::Stopped => print_stopped(text),
         _ => unreachable!(),
     }
 }
 
-fn print_settler_kind(alloc: Global, kind: &Kind, text: &mut Vec<u8>) -> Result<(), Memory>
+fn print_settler_kind(kind: &Kind, text: &mut Vec<u8>) -> Result<(), Memory>
     requires { IsOfSettler kind.now }
     ensures { OnOk result (text.new.items ≡ text.old.items ++ kind_text kind.now) }
 {
     match kind {
-        Kind::Heard { place, vector } => print_heard(alloc, place, vector, text),
+        Kind::Heard { place, vector } => print_heard(place, vector, text),
         Kind::Asked {
             round,
             mode,
             from,
             below,
-        } => print_asked(alloc, *round, *mode, *from, *below, text),
+        } => print_asked(*round, *mode, *from, *below, text),
         Kind::Taken {
             place,
             round,
             centre,
             part,
             items,
-        } => print_taken(alloc, place, *round, *centre, *part, items.as_slice(), text),
-        Kind::Settled { values } => print_settled(alloc, values.as_slice(), text),
+        } => print_taken(place, *round, *centre, *part, items.as_slice(), text),
+        Kind::Settled { values } => print_settled(values.as_slice(), text),
         Kind::Resulted {
             place,
             session,
             seq,
             gate,
             reply,
-        } => print_resulted(alloc, place, *session, *seq, *gate, reply, text),
+        } => print_resulted(place, *session, *seq, *gate, reply, text),
         Kind::Stopped => print_stopped(text),
         _ => unreachable!(),
     }
@@ -141,7 +141,6 @@ fn print_settler_kind(alloc: Global, kind: &Kind, text: &mut Vec<u8>) -> Result<
 // ---- kinds
 
 fn print_began(
-    alloc: Global,
     session: u32,
     seq: u32,
     start: &Start,
@@ -150,25 +149,24 @@ fn print_began(
     ensures { OnOk result (text.new.items ≡ text.old.items ++ kind_text (Kind.Began session seq start.now)) }
 {
     text.extend_from_slice(b"began")?;
-    print_command(alloc, session, seq, text)?;
+    print_command(session, seq, text)?;
     text.push(b' ')?;
-    print_start(alloc, start, text)
+    print_start(start, text)
 }
 
-fn print_start(alloc: Global, start: &Start, text: &mut Vec<u8>) -> Result<(), Memory>
+fn print_start(start: &Start, text: &mut Vec<u8>) -> Result<(), Memory>
     ensures { OnOk result (text.new.items ≡ text.old.items ++ start_text start.now) }
 {
     match start {
         Start::Draw {
             version,
             transaction,
-        } => print_draw(alloc, *version, transaction.parts(), text),
-        Start::Look { floor, keys } => print_look(alloc, *floor, keys.as_slice(), text),
+        } => print_draw(*version, transaction.parts(), text),
+        Start::Look { floor, keys } => print_look(*floor, keys.as_slice(), text),
     }
 }
 
 fn print_draw(
-    alloc: Global,
     version: Version,
     parts: &[Part],
     text: &mut Vec<u8>,
@@ -176,21 +174,20 @@ fn print_draw(
     ensures { OnOk result (text.new.items ≡ text.old.items ++ start_text (Start.Draw version parts.now)) }
 {
     text.extend_from_slice(b"do ")?;
-    version.print_to(alloc, text)?;
+    version.print_to(text)?;
     text.push(b' ')?;
-    print_parts(alloc, parts, text)
+    print_parts(parts, text)
 }
 
-fn print_look(alloc: Global, floor: u64, keys: &[Key], text: &mut Vec<u8>) -> Result<(), Memory>
+fn print_look(floor: u64, keys: &[Key], text: &mut Vec<u8>) -> Result<(), Memory>
     ensures { OnOk result (text.new.items ≡ text.old.items ++ start_text (Start.Look floor keys.now)) }
 {
     text.extend_from_slice(b"snap ")?;
-    print_mark(alloc, floor, text)?;
+    print_mark(floor, text)?;
     print_keys(keys, text)
 }
 
 fn print_stored(
-    alloc: Global,
     place: &Place,
     version: Version,
     items: &[Item],
@@ -198,14 +195,13 @@ fn print_stored(
 ) -> Result<(), Memory>
     ensures { OnOk result (text.new.items ≡ text.old.items ++ kind_text (Kind.Stored place.now version items.now)) }
 {
-    print_placed(alloc, b"stored", place, text)?;
+    print_placed(b"stored", place, text)?;
     text.push(b' ')?;
-    version.print_to(alloc, text)?;
-    print_items(alloc, items, text)
+    version.print_to(text)?;
+    print_items(items, text)
 }
 
 fn print_acked(
-    alloc: Global,
     place: &Place,
     version: Version,
     centre: u32,
@@ -215,15 +211,14 @@ fn print_acked(
     requires { IsNode centre part }
     ensures { OnOk result (text.new.items ≡ text.old.items ++ kind_text (Kind.Acked place.now version centre part)) }
 {
-    print_placed(alloc, b"acked", place, text)?;
+    print_placed(b"acked", place, text)?;
     text.push(b' ')?;
-    version.print_to(alloc, text)?;
+    version.print_to(text)?;
     text.push(b' ')?;
-    print_node(alloc, centre, part, text)
+    print_node(centre, part, text)
 }
 
 fn print_published(
-    alloc: Global,
     time: u64,
     vector: &Vector,
     text: &mut Vec<u8>,
@@ -231,24 +226,22 @@ fn print_published(
     ensures { OnOk result (text.new.items ≡ text.old.items ++ kind_text (Kind.Published time vector.now)) }
 {
     text.extend_from_slice(b"published ")?;
-    print_number(alloc, time, text)?;
-    print_vector(alloc, vector.listed(), text)
+    print_number(time, text)?;
+    print_vector(vector.listed(), text)
 }
 
 fn print_heard(
-    alloc: Global,
     place: &Place,
     vector: &Vector,
     text: &mut Vec<u8>,
 ) -> Result<(), Memory>
     ensures { OnOk result (text.new.items ≡ text.old.items ++ kind_text (Kind.Heard place.now vector.now)) }
 {
-    print_placed(alloc, b"heard", place, text)?;
-    print_vector(alloc, vector.listed(), text)
+    print_placed(b"heard", place, text)?;
+    print_vector(vector.listed(), text)
 }
 
 fn print_asked(
-    alloc: Global,
     round: u64,
     mode: Mode,
     from: u64,
@@ -258,14 +251,13 @@ fn print_asked(
     ensures { OnOk result (text.new.items ≡ text.old.items ++ kind_text (Kind.Asked round mode from below)) }
 {
     text.extend_from_slice(b"asked ")?;
-    print_number(alloc, round, text)?;
+    print_number(round, text)?;
     text.push(b' ')?;
     mode.print_to(text)?;
-    print_window(alloc, from, below, text)
+    print_window(from, below, text)
 }
 
 fn print_answered(
-    alloc: Global,
     place: &Place,
     settler: u32,
     round: u64,
@@ -275,16 +267,15 @@ fn print_answered(
     requires { IsSettler settler }
     ensures { OnOk result (text.new.items ≡ text.old.items ++ kind_text (Kind.Answered place.now settler round items.now)) }
 {
-    print_placed(alloc, b"answered", place, text)?;
+    print_placed(b"answered", place, text)?;
     text.push(b' ')?;
-    print_settler(alloc, settler, text)?;
+    print_settler(settler, text)?;
     text.push(b' ')?;
-    print_number(alloc, round, text)?;
-    print_items(alloc, items, text)
+    print_number(round, text)?;
+    print_items(items, text)
 }
 
 fn print_taken(
-    alloc: Global,
     place: &Place,
     round: u64,
     centre: u32,
@@ -295,23 +286,22 @@ fn print_taken(
     requires { IsNode centre part }
     ensures { OnOk result (text.new.items ≡ text.old.items ++ kind_text (Kind.Taken place.now round centre part items.now)) }
 {
-    print_placed(alloc, b"taken", place, text)?;
+    print_placed(b"taken", place, text)?;
     text.push(b' ')?;
-    print_number(alloc, round, text)?;
+    print_number(round, text)?;
     text.push(b' ')?;
-    print_node(alloc, centre, part, text)?;
-    print_items(alloc, items, text)
+    print_node(centre, part, text)?;
+    print_items(items, text)
 }
 
-fn print_settled(alloc: Global, values: &[Valued], text: &mut Vec<u8>) -> Result<(), Memory>
+fn print_settled(values: &[Valued], text: &mut Vec<u8>) -> Result<(), Memory>
     ensures { OnOk result (text.new.items ≡ text.old.items ++ kind_text (Kind.Settled values.now)) }
 {
     text.extend_from_slice(b"settled")?;
-    print_values(alloc, values, text)
+    print_values(values, text)
 }
 
 fn print_resulted(
-    alloc: Global,
     place: &Place,
     session: u32,
     seq: u32,
@@ -322,15 +312,14 @@ fn print_resulted(
     requires { IsGate gate }
     ensures { OnOk result (text.new.items ≡ text.old.items ++ kind_text (Kind.Resulted place.now session seq gate reply.now)) }
 {
-    print_placed(alloc, b"resulted", place, text)?;
-    print_command(alloc, session, seq, text)?;
+    print_placed(b"resulted", place, text)?;
+    print_command(session, seq, text)?;
     text.push(b' ')?;
-    print_gate(alloc, gate, text)?;
-    print_reply(alloc, reply, text)
+    print_gate(gate, text)?;
+    print_reply(reply, text)
 }
 
 fn print_replied(
-    alloc: Global,
     place: &Place,
     session: u32,
     seq: u32,
@@ -339,13 +328,12 @@ fn print_replied(
 ) -> Result<(), Memory>
     ensures { OnOk result (text.new.items ≡ text.old.items ++ kind_text (Kind.Replied place.now session seq reply.now)) }
 {
-    print_placed(alloc, b"replied", place, text)?;
-    print_command(alloc, session, seq, text)?;
-    print_reply(alloc, reply, text)
+    print_placed(b"replied", place, text)?;
+    print_command(session, seq, text)?;
+    print_reply(reply, text)
 }
 
 fn print_told(
-    alloc: Global,
     place: &Place,
     session: u32,
     seq: u32,
@@ -353,8 +341,8 @@ fn print_told(
 ) -> Result<(), Memory>
     ensures { OnOk result (text.new.items ≡ text.old.items ++ kind_text (Kind.Told place.now session seq)) }
 {
-    print_placed(alloc, b"told", place, text)?;
-    print_command(alloc, session, seq, text)
+    print_placed(b"told", place, text)?;
+    print_command(session, seq, text)
 }
 
 fn print_stopped(text: &mut Vec<u8>) -> Result<(), Memory>
@@ -367,82 +355,82 @@ fn print_stopped(text: &mut Vec<u8>) -> Result<(), Memory>
 // ---- pieces
 
 /// Writes the word of a kind and a place.
-fn print_placed(alloc: Global, word: &[u8], place: &Place, text: &mut Vec<u8>) -> Result<(), Memory>
+fn print_placed(word: &[u8], place: &Place, text: &mut Vec<u8>) -> Result<(), Memory>
     ensures { OnOk result (text.new.items ≡ text.old.items ++ joined 32 (word.now ∷ placed place.now [])) }
 {
     text.extend_from_slice(word)?;
     text.push(b' ')?;
-    print_number(alloc, place.entry, text)?;
+    print_number(place.entry, text)?;
     text.push(b' ')?;
-    print_number(alloc, u64::from(place.letter), text)
+    print_number(u64::from(place.letter), text)
 }
 
 /// Writes the numbers of a session and of one of its commands, each behind a space.
-fn print_command(alloc: Global, session: u32, seq: u32, text: &mut Vec<u8>) -> Result<(), Memory>
+fn print_command(session: u32, seq: u32, text: &mut Vec<u8>) -> Result<(), Memory>
     ensures { OnOk result (text.new.items ≡ text.old.items ++ 32 ∷ joined 32 (commanded session seq [])) }
 {
     text.push(b' ')?;
-    print_number(alloc, u64::from(session), text)?;
+    print_number(u64::from(session), text)?;
     text.push(b' ')?;
-    print_number(alloc, u64::from(seq), text)
+    print_number(u64::from(seq), text)
 }
 
 /// Writes the two ends of a window, each behind a space.
-fn print_window(alloc: Global, from: u64, below: u64, text: &mut Vec<u8>) -> Result<(), Memory>
+fn print_window(from: u64, below: u64, text: &mut Vec<u8>) -> Result<(), Memory>
     ensures { OnOk result (text.new.items ≡ text.old.items ++ 32 ∷ joined 32 (version_text from ∷ version_text below ∷ [])) }
 {
     text.push(b' ')?;
-    print_mark(alloc, from, text)?;
+    print_mark(from, text)?;
     text.push(b' ')?;
-    print_mark(alloc, below, text)
+    print_mark(below, text)
 }
 
 /// Writes the reply behind a space.
-fn print_reply(alloc: Global, reply: &Reply, text: &mut Vec<u8>) -> Result<(), Memory>
+fn print_reply(reply: &Reply, text: &mut Vec<u8>) -> Result<(), Memory>
     ensures { OnOk result (text.new.items ≡ text.old.items ++ 32 ∷ reply_text reply.now) }
 {
     text.push(b' ')?;
-    reply.print_to(alloc, text)
+    reply.print_to(text)
 }
 
-fn print_vector(alloc: Global, vector: &[Marks], text: &mut Vec<u8>) -> Result<(), Memory>
+fn print_vector(vector: &[Marks], text: &mut Vec<u8>) -> Result<(), Memory>
     ensures { OnOk result (text.new.items ≡ text.old.items ++ vector_text vector.now) }
 {
     for marks in vector {
-        print_marks(alloc, marks, text)?;
+        print_marks(marks, text)?;
     }
     Ok(())
 }
 
-fn print_marks(alloc: Global, marks: &Marks, text: &mut Vec<u8>) -> Result<(), Memory>
+fn print_marks(marks: &Marks, text: &mut Vec<u8>) -> Result<(), Memory>
     ensures { OnOk result (text.new.items ≡ text.old.items ++ marks_text marks.now) }
 {
     text.extend_from_slice(b" ; ")?;
-    print_mark(alloc, marks.low, text)?;
+    print_mark(marks.low, text)?;
     text.push(b' ')?;
-    print_mark(alloc, marks.full, text)?;
+    print_mark(marks.full, text)?;
     text.push(b' ')?;
-    print_mark(alloc, marks.done, text)
+    print_mark(marks.done, text)
 }
 
-fn print_values(alloc: Global, values: &[Valued], text: &mut Vec<u8>) -> Result<(), Memory>
+fn print_values(values: &[Valued], text: &mut Vec<u8>) -> Result<(), Memory>
     ensures { OnOk result (text.new.items ≡ text.old.items ++ values_text values.now) }
 {
     for valued in values {
-        print_valued(alloc, valued, text)?;
+        print_valued(valued, text)?;
     }
     Ok(())
 }
 
-fn print_valued(alloc: Global, valued: &Valued, text: &mut Vec<u8>) -> Result<(), Memory>
+fn print_valued(valued: &Valued, text: &mut Vec<u8>) -> Result<(), Memory>
     ensures { OnOk result (text.new.items ≡ text.old.items ++ valued_text valued.now) }
 {
     text.extend_from_slice(b" ; ")?;
-    valued.version.print_to(alloc, text)?;
+    valued.version.print_to(text)?;
     text.push(b' ')?;
     text.extend_from_slice(valued.key.bytes())?;
     text.push(b' ')?;
-    valued.value.print_to(alloc, text)
+    valued.value.print_to(text)
 }
 
 fn print_keys(keys: &[Key], text: &mut Vec<u8>) -> Result<(), Memory>

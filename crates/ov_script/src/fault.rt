@@ -1,10 +1,9 @@
 //! What may be wrong with scripts and schedules.
-ghost use Rattle.std.specs.Prelude.{◌≡◌, ◌++◌};
+ghost use Rattle.std.specs.Prelude.{◌≡◌, ◌++◌, codes, decimal};
 ghost use Rattle.ov_base.specs.Word.{Printed};
 ghost use Rattle.ov_script.specs.FaultLines.{script_words, schedule_words, fault_line, script_fault_text, schedule_fault_text};
 
-use ov_base::Memory;
-use std::alloc::Global;
+use ov_base::{Memory, print_number};
 use thiserror::Error;
 
 /// What is wrong with a line of a script. A line's faults are tested in the order of its kind
@@ -110,13 +109,13 @@ impl ScheduleFault {
 impl ScriptError {
     /// Writes the fault line without its line feed (docs/FORMATS.md, Fault lines); `Memory` has the
     /// empty line. On an error a prefix of it was written.
-    pub fn print_to(&self, alloc: Global, text: &mut Vec<u8>) -> Result<(), Memory>
+    pub fn print_to(&self, text: &mut Vec<u8>) -> Result<(), Memory>
         ensures { Printed result text.old.items text.new.items (script_fault_text self.now) }
     {
         match self {
             ScriptError::Memory => Ok(()),
             ScriptError::Line { line, fault } => {
-                print_fault(alloc, "script", *line, fault.words(), text)
+                print_fault("script", *line, fault.words(), text)
             }
         }
     }
@@ -125,28 +124,32 @@ impl ScriptError {
 impl ScheduleError {
     /// Writes the fault line without its line feed (docs/FORMATS.md, Fault lines); `Memory` has the
     /// empty line. On an error a prefix of it was written.
-    pub fn print_to(&self, alloc: Global, text: &mut Vec<u8>) -> Result<(), Memory>
+    pub fn print_to(&self, text: &mut Vec<u8>) -> Result<(), Memory>
         ensures { Printed result text.old.items text.new.items (schedule_fault_text self.now) }
     {
         match self {
             ScheduleError::Memory => Ok(()),
             ScheduleError::Line { line, fault } => {
-                print_fault(alloc, "schedule", *line, fault.words(), text)
+                print_fault("schedule", *line, fault.words(), text)
             }
         }
     }
 }
 
-fn print_fault(
-    alloc: Global,
-    name: &str,
-    line: u64,
-    words: &str,
-    text: &mut Vec<u8>,
-) -> Result<(), Memory>
+fn print_fault(name: &str, line: u64, words: &str, text: &mut Vec<u8>) -> Result<(), Memory>
     ensures { Printed result text.old.items text.new.items (fault_line name.now line words.now) }
 {
-    let written = format!(in alloc; "{name}: line {line}: {words}")?;
-    text.extend_from_slice(written.as_bytes())?;
+    text.extend_from_slice(name.as_bytes())?;
+    text.extend_from_slice(b": line ")?;
+    print_numbered(line, words, text)
+}
+
+/// Writes a number and words behind it.
+fn print_numbered(number: u64, words: &str, text: &mut Vec<u8>) -> Result<(), Memory>
+    ensures { Printed result text.old.items text.new.items (decimal number ++ codes ": " ++ words.now) }
+{
+    print_number(number, text)?;
+    text.extend_from_slice(b": ")?;
+    text.extend_from_slice(words.as_bytes())?;
     Ok(())
 }

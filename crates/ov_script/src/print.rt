@@ -11,11 +11,9 @@ use ov_base::{Key, Memory, print_number};
 use ov_functor::{Part, print_parts};
 use ov_session::SessionName;
 use ov_topology::print_gate;
-use std::alloc::Global;
 
 /// Writes the line of a session at the end, without its line feed. On an error a prefix of it was written.
 pub(crate) fn print_session(
-    alloc: Global,
     name: &SessionName,
     gate: u32,
     text: &mut Vec<u8>,
@@ -26,12 +24,11 @@ pub(crate) fn print_session(
     text.extend_from_slice(b"session ")?;
     text.extend_from_slice(name.bytes())?;
     text.push(b' ')?;
-    print_gate(alloc, gate, text)
+    print_gate(gate, text)
 }
 
 /// Writes the line of a transaction at the end, without its line feed. On an error a prefix of it was written.
 pub(crate) fn print_do(
-    alloc: Global,
     session: &SessionName,
     parts: &[Part],
     text: &mut Vec<u8>,
@@ -39,7 +36,7 @@ pub(crate) fn print_do(
     ensures { Printed result text.old.items text.new.items (line_text (ScriptLine.Do session.now parts.now)) }
 {
     print_kind(session, b" do ", text)?;
-    print_parts(alloc, parts, text)
+    print_parts(parts, text)
 }
 
 /// Writes the line of a snapshot at the end, without its line feed. On an error a prefix of it was written.
@@ -56,7 +53,6 @@ pub(crate) fn print_snap(
 
 /// Writes the line of a wait at the end, without its line feed. On an error a prefix of it was written.
 pub(crate) fn print_after(
-    alloc: Global,
     session: &SessionName,
     other: &SessionName,
     seq: u32,
@@ -65,7 +61,7 @@ pub(crate) fn print_after(
     ensures { Printed result text.old.items text.new.items (line_text (ScriptLine.After session.now other.now seq)) }
 {
     print_kind(session, b" after ", text)?;
-    print_awaited(alloc, other, seq, text)
+    print_awaited(other, seq, text)
 }
 
 /// Writes the name of the session, and the word of the line's kind with its spaces.
@@ -79,7 +75,6 @@ fn print_kind(session: &SessionName, kind: &[u8], text: &mut Vec<u8>) -> Result<
 
 /// Writes the name of a session and the number of a command.
 fn print_awaited(
-    alloc: Global,
     session: &SessionName,
     seq: u32,
     text: &mut Vec<u8>,
@@ -87,15 +82,15 @@ fn print_awaited(
     ensures { Printed result text.old.items text.new.items (session.now ++ 32 ∷ decimal seq) }
 {
     text.extend_from_slice(session.bytes())?;
-    print_seq(alloc, seq, text)
+    print_seq(seq, text)
 }
 
 /// Writes the number behind a space.
-fn print_seq(alloc: Global, seq: u32, text: &mut Vec<u8>) -> Result<(), Memory>
+fn print_seq(seq: u32, text: &mut Vec<u8>) -> Result<(), Memory>
     ensures { Printed result text.old.items text.new.items (32 ∷ decimal seq) }
 {
     text.push(b' ')?;
-    print_number(alloc, u64::from(seq), text)
+    print_number(u64::from(seq), text)
 }
 
 /// Writes the keys with a space between them; no key writes nothing.

@@ -55,11 +55,11 @@ impl Schedule {
 
     /// Writes the text that was read at the end. It is read back as the same schedule. On an error a prefix of
     /// it was written.
-    pub fn print_to(&self, alloc: Global, text: &mut Vec<u8>) -> Result<(), Memory>
+    pub fn print_to(&self, text: &mut Vec<u8>) -> Result<(), Memory>
         ensures text { Printed result text.old.items text.new.items (schedule_text self.now) }
         ensures again { schedule_of (schedule_text self.now) ≡ Ok self.now }
     {
-        print_steps(alloc, self.steps.as_slice(), text)
+        print_steps(self.steps.as_slice(), text)
     }
 
     /// A copy, which equals its source. The only error is out of memory.
@@ -153,22 +153,22 @@ fn push_step(steps: &mut Sequence<Step>, step: Step) -> Result<(), LineError<Sch
     }
 }
 
-fn print_steps(alloc: Global, steps: &[Step], text: &mut Vec<u8>) -> Result<(), Memory>
+fn print_steps(steps: &[Step], text: &mut Vec<u8>) -> Result<(), Memory>
     requires { AllByRecursion IsStep steps.now }
     ensures { Printed result text.old.items text.new.items (schedule_text steps.now) }
 {
     for step in steps {
-        print_line(alloc, step, text)?;
+        print_line(step, text)?;
     }
     Ok(())
 }
 
 /// Writes the step and a line feed.
-fn print_line(alloc: Global, step: &Step, text: &mut Vec<u8>) -> Result<(), Memory>
+fn print_line(step: &Step, text: &mut Vec<u8>) -> Result<(), Memory>
     requires { IsStep step.now }
     ensures { Printed result text.old.items text.new.items (step_text step.now ++ 10 ∷ []) }
 {
-    step.print_to(alloc, text)?;
+    step.print_to(text)?;
     text.push(b'\n')?;
     Ok(())
 }

@@ -127,11 +127,11 @@ impl Script {
 
     /// Writes the text at the end: the one that was read, or that of the lines that were added. It is read
     /// back as the same script. On an error a prefix of it was written.
-    pub fn print_to(&self, alloc: Global, text: &mut Vec<u8>) -> Result<(), Memory>
+    pub fn print_to(&self, text: &mut Vec<u8>) -> Result<(), Memory>
         ensures text { Printed result text.old.items text.new.items (script_text self.now.lines) }
         ensures again { script_of self.now.gateways (script_text self.now.lines) ≡ Ok self.now.lines }
     {
-        print_lines(alloc, &self.roster, self.written.as_slice(), text)
+        print_lines(&self.roster, self.written.as_slice(), text)
     }
 
     /// A copy, which equals its source. The only error is out of memory.

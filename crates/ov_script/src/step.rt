@@ -11,7 +11,6 @@ ghost use Rattle.ov_script.specs.Step.{IsStep, step_of, step_text};
 use ov_base::{Memory, Plain, parse_number, print_number, split_at_byte};
 use ov_session::SessionName;
 use ov_topology::{Actor, Mode, Place, parse_gate, parse_settler, print_gate, print_settler};
-use std::alloc::Global;
 
 /// A line of a schedule: what is tried next (docs/FORMATS.md, Schedule). Clocks are any numbers.
 #[derive(Clone, Copy, Debug, PartialEq, Eq)]
@@ -41,17 +40,17 @@ impl Step {
     }
 
     /// Writes the one spelling at the end, without a line feed. On an error a prefix of it was written.
-    pub fn print_to(&self, alloc: Global, text: &mut Vec<u8>) -> Result<(), Memory>
+    pub fn print_to(&self, text: &mut Vec<u8>) -> Result<(), Memory>
         requires { IsStep self.now }
         ensures { Printed result text.old.items text.new.items (step_text self.now) }
     {
         match self {
-            Step::Begin { session, clock } => print_begin(alloc, session, *clock, text),
-            Step::Take { actor, place } => print_take(alloc, actor, place, text),
-            Step::Publish { gate, clock } => print_publish(alloc, *gate, *clock, text),
-            Step::Ask { settler, mode } => print_ask(alloc, *settler, *mode, text),
-            Step::Settle { settler } => print_settle(alloc, *settler, text),
-            Step::Stop { actor } => print_stop(alloc, actor, text),
+            Step::Begin { session, clock } => print_begin(session, *clock, text),
+            Step::Take { actor, place } => print_take(actor, place, text),
+            Step::Publish { gate, clock } => print_publish(*gate, *clock, text),
+            Step::Ask { settler, mode } => print_ask(*settler, *mode, text),
+            Step::Settle { settler } => print_settle(*settler, text),
+            Step::Stop { actor } => print_stop(actor, text),
         }
     }
 }
@@ -136,7 +135,6 @@ fn stop_read(rest: &[u8]) -> Option<Step>
 }
 
 fn print_begin(
-    alloc: Global,
     session: &SessionName,
     clock: u64,
     text: &mut Vec<u8>,
@@ -145,61 +143,61 @@ fn print_begin(
 {
     text.extend_from_slice(b"begin ")?;
     text.extend_from_slice(session.bytes())?;
-    print_clock(alloc, clock, text)
+    print_clock(clock, text)
 }
 
-fn print_take(alloc: Global, actor: &Actor, place: &Place, text: &mut Vec<u8>) -> Result<(), Memory>
+fn print_take(actor: &Actor, place: &Place, text: &mut Vec<u8>) -> Result<(), Memory>
     requires actor { IsActor actor.now }
     requires place { IsPlace place.now }
     ensures { Printed result text.old.items text.new.items (codes "take " ++ actor_text actor.now ++ 32 ∷ place_text place.now) }
 {
     text.extend_from_slice(b"take ")?;
-    actor.print_to(alloc, text)?;
+    actor.print_to(text)?;
     text.push(b' ')?;
-    place.print_to(alloc, text)
+    place.print_to(text)
 }
 
-fn print_publish(alloc: Global, gate: u32, clock: u64, text: &mut Vec<u8>) -> Result<(), Memory>
+fn print_publish(gate: u32, clock: u64, text: &mut Vec<u8>) -> Result<(), Memory>
     requires { IsGate gate }
     ensures { Printed result text.old.items text.new.items (codes "publish " ++ gate_text gate ++ 32 ∷ decimal clock) }
 {
     text.extend_from_slice(b"publish ")?;
-    print_gate(alloc, gate, text)?;
-    print_clock(alloc, clock, text)
+    print_gate(gate, text)?;
+    print_clock(clock, text)
 }
 
-fn print_ask(alloc: Global, settler: u32, mode: Mode, text: &mut Vec<u8>) -> Result<(), Memory>
+fn print_ask(settler: u32, mode: Mode, text: &mut Vec<u8>) -> Result<(), Memory>
     requires { IsSettler settler }
     ensures { Printed result text.old.items text.new.items (codes "ask " ++ settler_text settler ++ 32 ∷ mode_text mode) }
 {
     text.extend_from_slice(b"ask ")?;
-    print_settler(alloc, settler, text)?;
+    print_settler(settler, text)?;
     text.push(b' ')?;
     mode.print_to(text)
 }
 
-fn print_settle(alloc: Global, settler: u32, text: &mut Vec<u8>) -> Result<(), Memory>
+fn print_settle(settler: u32, text: &mut Vec<u8>) -> Result<(), Memory>
     requires { IsSettler settler }
     ensures { Printed result text.old.items text.new.items (codes "settle " ++ settler_text settler) }
 {
     text.extend_from_slice(b"settle ")?;
-    print_settler(alloc, settler, text)
+    print_settler(settler, text)
 }
 
-fn print_stop(alloc: Global, actor: &Actor, text: &mut Vec<u8>) -> Result<(), Memory>
+fn print_stop(actor: &Actor, text: &mut Vec<u8>) -> Result<(), Memory>
     requires { IsActor actor.now }
     ensures { Printed result text.old.items text.new.items (codes "stop " ++ actor_text actor.now) }
 {
     text.extend_from_slice(b"stop ")?;
-    actor.print_to(alloc, text)
+    actor.print_to(text)
 }
 
 /// Writes the reading of a clock behind a space.
-fn print_clock(alloc: Global, clock: u64, text: &mut Vec<u8>) -> Result<(), Memory>
+fn print_clock(clock: u64, text: &mut Vec<u8>) -> Result<(), Memory>
     ensures { Printed result text.old.items text.new.items (32 ∷ decimal clock) }
 {
     text.push(b' ')?;
-    print_number(alloc, clock, text)?;
+    print_number(clock, text)?;
     Ok(())
 }
 

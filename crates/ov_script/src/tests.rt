@@ -15,7 +15,7 @@ b after a 1
 /// The script is printed as the text.
 fn prints(rt: &impl Abort, alloc: Global, script: &Script, text: &str) -> Result<(), Fail> {
     let mut printed = Vec::new(alloc);
-    script.print_to(alloc, &mut printed)?;
+    script.print_to(&mut printed)?;
     assert_eq!(rt; printed.as_slice(), text.as_bytes());
     Ok(())
 }

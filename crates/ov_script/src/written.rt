@@ -9,7 +9,6 @@ use crate::print::{print_after, print_do, print_session, print_snap};
 use ov_base::Memory;
 use ov_functor::Command;
 use ov_session::{Roster, SessionName};
-use std::alloc::Global;
 
 /// A line, but for what the roster says: sessions and commands by their numbers.
 #[derive(Clone, Copy, Debug)]
@@ -24,7 +23,6 @@ pub enum Written {
 
 /// Writes lines at the end, each with its line feed. On an error a prefix of them was written.
 pub(crate) fn print_lines(
-    alloc: Global,
     roster: &Roster,
     written: &[Written],
     text: &mut Vec<u8>,
@@ -33,13 +31,12 @@ pub(crate) fn print_lines(
     ensures { Printed result text.old.items text.new.items (flat_map (kept_text roster.now) written.now) }
 {
     for line in written {
-        print_ended(alloc, roster, line, text)?;
+        print_ended(roster, line, text)?;
     }
     Ok(())
 }
 
 fn print_ended(
-    alloc: Global,
     roster: &Roster,
     written: &Written,
     text: &mut Vec<u8>,
@@ -47,14 +44,13 @@ fn print_ended(
     requires { IsShown roster.now written.now }
     ensures { Printed result text.old.items text.new.items (kept_text roster.now written.now) }
 {
-    print_line(alloc, roster, written, text)?;
+    print_line(roster, written, text)?;
     text.push(b'\n')?;
     Ok(())
 }
 
 /// Writes a line, without its line feed.
 fn print_line(
-    alloc: Global,
     roster: &Roster,
     written: &Written,
     text: &mut Vec<u8>,
@@ -65,12 +61,12 @@ fn print_line(
     match written {
         Written::Session(session) => {
             let plan = &roster.sessions.as_slice()[*session as usize];
-            print_session(alloc, &plan.name, plan.gate, text)
+            print_session(&plan.name, plan.gate, text)
         }
         Written::Command { session, seq } => {
             let plan = &roster.sessions.as_slice()[*session as usize];
             let planned = &plan.planned.as_slice()[*seq as usize - 1];
-            print_command(alloc, &plan.name, &planned.command, text)
+            print_command(&plan.name, &planned.command, text)
         }
         Written::After {
             session,
@@ -79,13 +75,12 @@ fn print_line(
         } => {
             let sessions = roster.sessions.as_slice();
             let name = &sessions[*session as usize].name;
-            print_after(alloc, name, &sessions[*other as usize].name, *seq, text)
+            print_after(name, &sessions[*other as usize].name, *seq, text)
         }
     }
 }
 
 fn print_command(
-    alloc: Global,
     session: &SessionName,
     command: &Command,
     text: &mut Vec<u8>,
@@ -93,7 +88,7 @@ fn print_command(
     ensures { Printed result text.old.items text.new.items (line_text (command_line session.now command.now)) }
 {
     match command {
-        Command::Transact(transaction) => print_do(alloc, session, transaction.parts(), text),
+        Command::Transact(transaction) => print_do(session, transaction.parts(), text),
         Command::Snap(keys) => print_snap(session, keys.as_slice(), text),
     }
 }

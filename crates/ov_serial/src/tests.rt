@@ -55,7 +55,7 @@ fn a_list_is_executed_in_the_order_of_its_versions(rt: HostRuntime) -> Result<()
     let serial = serial.ok_or("distinct versions")?;
     let mut text = Vec::new(rt.alloc());
     for reply in serial.replies.as_slice() {
-        reply.print_to(rt.alloc(), &mut text)?;
+        reply.print_to(&mut text)?;
         text.push(b'\n')?;
     }
     let replies = "done 1.0\naborted 2.0 a=10\ndone 3.0\n";
@@ -96,7 +96,7 @@ fn a_snapshot_prints_what_it_shows(rt: HostRuntime) -> Result<(), Fail> {
     let copy = reply.copy()?;
     assert!(rt; copy == reply);
     let mut text = Vec::new(rt.alloc());
-    copy.print_to(rt.alloc(), &mut text)?;
+    copy.print_to(&mut text)?;
     assert_eq!(rt; text.as_slice(), b"snap 2.1 x=absent".as_slice());
     Ok(())
 }

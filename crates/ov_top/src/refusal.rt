@@ -6,7 +6,6 @@ ghost use Rattle.ov_top.specs.Form.{form_line, form_status, not_built_line};
 use ov_base::Memory;
 use ov_script::{ScheduleError, ScriptError};
 use ov_topology::TopologyError;
-use std::alloc::Global;
 
 /// Which of the file words of the command `step`.
 #[derive(Clone, Copy, Debug, PartialEq, Eq)]
@@ -59,13 +58,13 @@ impl FormFault {
     }
 
     /// Writes the fault line without its line feed. On an error a prefix of it was written.
-    pub(crate) fn print_to(&self, alloc: Global, text: &mut Vec<u8>) -> Result<(), Memory>
+    pub(crate) fn print_to(&self, text: &mut Vec<u8>) -> Result<(), Memory>
         ensures { Printed result text.old.items text.new.items (form_line self.now) }
     {
         match self {
-            FormFault::Topology(error) => error.print_to(alloc, text),
-            FormFault::Script(error) => error.print_to(alloc, text),
-            FormFault::Schedule(error) => error.print_to(alloc, text),
+            FormFault::Topology(error) => error.print_to(text),
+            FormFault::Script(error) => error.print_to(text),
+            FormFault::Schedule(error) => error.print_to(text),
             FormFault::NotBuilt(word) => print_not_built(*word, text),
         }
     }

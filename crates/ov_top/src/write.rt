@@ -63,7 +63,7 @@ fn fault_line(alloc: Global, fault: &FormFault) -> Result<Vec<u8>, Memory>
     ensures { IfOk result (λ v. v.items ≡ form_text fault.now) }
 {
     let mut line = Vec::new(alloc);
-    fault.print_to(alloc, &mut line)?;
+    fault.print_to(&mut line)?;
     line.push(b'\n')?;
     Ok(line)
 }
@@ -164,9 +164,9 @@ fn line_of(alloc: Global, session: &[u8], seq: u32, reply: &Reply) -> Result<Vec
 {
     let mut line = Vec::from_slice(alloc, session)?;
     line.push(b' ')?;
-    print_number(alloc, u64::from(seq), &mut line)?;
+    print_number(u64::from(seq), &mut line)?;
     line.push(b' ')?;
-    reply.print_to(alloc, &mut line)?;
+    reply.print_to(&mut line)?;
     line.push(b'\n')?;
     Ok(line)
 }

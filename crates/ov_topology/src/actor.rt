@@ -6,7 +6,6 @@ ghost use Rattle.ov_topology.specs.Actor as spec;
 ghost use Rattle.ov_topology.specs.Actor.{IsActor, IsGate, IsNode, IsSettler, actor_text, gate_text, node_text, settler_text, actor_of, gate_of, node_of, settler_of, digit_of};
 
 use ov_base::{Memory, Plain, print_number};
-use std::alloc::Global;
 
 /// An actor of the store (docs/STORE.md, Topology). Actors are ordered: gateways upwards, then nodes by
 /// centre and then partition, then settlers upwards.
@@ -31,14 +30,14 @@ impl Actor {
     }
 
     /// Writes the one spelling at the end. On an error a prefix of it was written.
-    pub fn print_to(&self, alloc: Global, text: &mut Vec<u8>) -> Result<(), Memory>
+    pub fn print_to(&self, text: &mut Vec<u8>) -> Result<(), Memory>
         requires { IsActor self.now }
         ensures { Printed result text.old.items text.new.items (actor_text self.now) }
     {
         match self {
-            Actor::Gate(gate) => print_gate(alloc, *gate, text),
-            Actor::Node { centre, part } => print_node(alloc, *centre, *part, text),
-            Actor::Settler(centre) => print_settler(alloc, *centre, text),
+            Actor::Gate(gate) => print_gate(*gate, text),
+            Actor::Node { centre, part } => print_node(*centre, *part, text),
+            Actor::Settler(centre) => print_settler(*centre, text),
         }
     }
 }
@@ -71,32 +70,32 @@ pub fn parse_node(text: &[u8]) -> Option<(u32, u32)>
 }
 
 /// Writes the one spelling of a gateway, `g0` to `g7`, at the end. On an error a prefix of it was written.
-pub fn print_gate(alloc: Global, gate: u32, text: &mut Vec<u8>) -> Result<(), Memory>
+pub fn print_gate(gate: u32, text: &mut Vec<u8>) -> Result<(), Memory>
     requires { IsGate gate }
     ensures { Printed result text.old.items text.new.items (gate_text gate) }
 {
     text.push(b'g')?;
-    print_number(alloc, u64::from(gate), text)
+    print_number(u64::from(gate), text)
 }
 
 /// Writes the one spelling of a settler, `e0` to `e4`, at the end. On an error a prefix of it was written.
-pub fn print_settler(alloc: Global, centre: u32, text: &mut Vec<u8>) -> Result<(), Memory>
+pub fn print_settler(centre: u32, text: &mut Vec<u8>) -> Result<(), Memory>
     requires { IsSettler centre }
     ensures { Printed result text.old.items text.new.items (settler_text centre) }
 {
     text.push(b'e')?;
-    print_number(alloc, u64::from(centre), text)
+    print_number(u64::from(centre), text)
 }
 
 /// Writes the one spelling of a node, `n0.0` to `n4.7`, at the end. On an error a prefix of it was written.
-pub fn print_node(alloc: Global, centre: u32, part: u32, text: &mut Vec<u8>) -> Result<(), Memory>
+pub fn print_node(centre: u32, part: u32, text: &mut Vec<u8>) -> Result<(), Memory>
     requires { IsNode centre part }
     ensures { Printed result text.old.items text.new.items (node_text centre part) }
 {
     text.push(b'n')?;
-    print_number(alloc, u64::from(centre), text)?;
+    print_number(u64::from(centre), text)?;
     text.push(b'.')?;
-    print_number(alloc, u64::from(part), text)
+    print_number(u64::from(part), text)
 }
 
 #[tactic(auto, unfolding(crate::specs::Actor::actor_of))]

@@ -1,10 +1,9 @@
 //! What may be wrong with the document of a topology.
-ghost use Rattle.std.specs.Prelude.{◌≡◌, ◌∷◌, ◌++◌, decimal, OnOk, OnErr};
+ghost use Rattle.std.specs.Prelude.{◌≡◌, ◌∷◌, ◌++◌, decimal};
 ghost use Rattle.ov_base.specs.Word.{Printed};
 ghost use Rattle.ov_topology.specs.Fault.{name_text, fault_text};
 
-use ov_base::Memory;
-use std::alloc::Global;
+use ov_base::{Memory, print_number};
 use thiserror::Error;
 
 /// The keys of the document, in the order in which their values are tested (docs/FORMATS.md, Topology).
@@ -67,7 +66,7 @@ pub enum TopologyError {
 impl TopologyError {
     /// Writes the fault line without its line feed (docs/FORMATS.md, Fault lines); `Memory` has the
     /// empty line. On an error a prefix of it was written.
-    pub fn print_to(&self, alloc: Global, text: &mut Vec<u8>) -> Result<(), Memory>
+    pub fn print_to(&self, text: &mut Vec<u8>) -> Result<(), Memory>
         ensures { Printed result text.old.items text.new.items (fault_text self.now) }
     {
         match self {
@@ -77,14 +76,9 @@ impl TopologyError {
             TopologyError::Unknown => print_words(b"topology: unknown key", text),
             TopologyError::Kind(name) => print_named(b"topology: kind ", *name, text),
             TopologyError::Range(name) => print_named(b"topology: range ", *name, text),
-            TopologyError::Quorum { w, r, d } => print_quorum(
-                alloc,
-                b"topology: quorum ",
-                *w,
-                *r,
-                *d,
-                text,
-            ),
+            TopologyError::Quorum { w, r, d } => {
+                print_quorum(b"topology: quorum ", *w, *r, *d, text)
+            }
         }
     }
 }
@@ -104,7 +98,6 @@ fn print_named(words: &[u8], name: Name, text: &mut Vec<u8>) -> Result<(), Memor
 }
 
 fn print_quorum(
-    alloc: Global,
     words: &[u8],
     write: u32,
     read: u32,
@@ -114,21 +107,22 @@ fn print_quorum(
     ensures { Printed result text.old.items text.new.items (words.now ++ (decimal write ++ 32 ∷ (decimal read ++ 32 ∷ decimal centres))) }
 {
     text.extend_from_slice(words)?;
-    print_numbers(alloc, write, read, centres, text)
+    print_numbers(write, read, centres, text)
 }
 
-/// Writes the three numbers with a space between them. On an error the text is as before.
-fn print_numbers(
-    alloc: Global,
-    write: u32,
-    read: u32,
-    centres: u32,
-    text: &mut Vec<u8>,
-) -> Result<(), Memory>
-    ensures ok { OnOk result (text.new.items ≡ text.old.items ++ (decimal write ++ 32 ∷ (decimal read ++ 32 ∷ decimal centres))) }
-    ensures err { OnErr result (text.new.items ≡ text.old.items) }
+/// Writes the three numbers with a space between them.
+fn print_numbers(write: u32, read: u32, centres: u32, text: &mut Vec<u8>) -> Result<(), Memory>
+    ensures { Printed result text.old.items text.new.items (decimal write ++ 32 ∷ (decimal read ++ 32 ∷ decimal centres)) }
 {
-    let numbers = format!(in alloc; "{write} {read} {centres}")?;
-    text.extend_from_slice(numbers.as_bytes())?;
-    Ok(())
+    print_number(u64::from(write), text)?;
+    text.push(b' ')?;
+    print_pair(read, centres, text)
+}
+
+fn print_pair(read: u32, centres: u32, text: &mut Vec<u8>) -> Result<(), Memory>
+    ensures { Printed result text.old.items text.new.items (decimal read ++ 32 ∷ decimal centres) }
+{
+    print_number(u64::from(read), text)?;
+    text.push(b' ')?;
+    print_number(u64::from(centres), text)
 }

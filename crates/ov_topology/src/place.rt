@@ -5,7 +5,6 @@ ghost use Rattle.ov_base.specs.Word.{Reads, Printed};
 ghost use Rattle.ov_topology.specs.Place.{IsPlace, place_text, place_at, place_of, letter_of};
 
 use ov_base::{Memory, Plain, parse_number, print_number, split_at_byte};
-use std::alloc::Global;
 
 /// Where a letter stands: the number of its entry in the history, from 1, and its number among the letters
 /// of that entry, from 1 to 9 (docs/STORE.md, Letters).
@@ -40,13 +39,13 @@ impl Place {
     }
 
     /// Writes the one spelling at the end. On an error a prefix of it was written.
-    pub fn print_to(&self, alloc: Global, text: &mut Vec<u8>) -> Result<(), Memory>
+    pub fn print_to(&self, text: &mut Vec<u8>) -> Result<(), Memory>
         requires { IsPlace self.now }
         ensures { Printed result text.old.items text.new.items (place_text self.now) }
     {
-        print_number(alloc, self.entry, text)?;
+        print_number(self.entry, text)?;
         text.push(b' ')?;
-        print_number(alloc, u64::from(self.letter), text)
+        print_number(u64::from(self.letter), text)
     }
 }
 

@@ -67,16 +67,16 @@ fn each_last_letter_says_what_its_entry_says(rt: HostRuntime) -> Result<(), Fail
 }
 
 /// Writes the version, the partition and the keys of a `Write` letter.
-fn print_write(alloc: Global, letter: &Letter, text: &mut Vec<u8>) -> Result<(), Fail> {
+fn print_write(letter: &Letter, text: &mut Vec<u8>) -> Result<(), Fail> {
     if let Letter::Write {
         version,
         part,
         items,
     } = letter
     {
-        version.print_to(alloc, text)?;
+        version.print_to(text)?;
         text.push(b' ')?;
-        print_number(alloc, u64::from(*part), text)?;
+        print_number(u64::from(*part), text)?;
         text.push(b' ')?;
         for item in items.as_slice() {
             text.extend_from_slice(item.key.bytes())?;
@@ -94,9 +94,7 @@ fn of_first(alloc: Global, number: u32) -> Result<Option<Letter>, Fail> {
 fn written(alloc: Global) -> Result<Vec<u8>, Fail> {
     let mut text = Vec::new(alloc);
     for number in 1..4u32 {
-        print_write(
-            alloc,
-            &of_first(alloc, number)?.ok_or("a letter")?,
+        print_write(&of_first(alloc, number)?.ok_or("a letter")?,
             &mut text,
         )?;
         text.push(b',')?;

@@ -1,16 +1,11 @@
-use Rattle.std.proofs.Common.{◌≡◌, rules}
-use Rattle.std.proofs.lemmas.Result.{err_from_is_err_and}
-use Rattle.ov_base.proofs.Printing.{printed_nothing}
-use Rattle.ov_script.specs.FaultLines.{fault_line}
+use Rattle.std.proofs.Common.{◌≡◌, ◌++◌, decimal, rules}
+use Rattle.std.specs.Prelude.{codes}
+use Rattle.ov_base.proofs.Printing.{printed_then}
 use Rattle.ov_script.proofs.fault.print_fault.Goals as goal
 
-pub returns-in_err-written : goal.returns-in_err-written
-returns-in_err-written c =
-    let p = err_from_is_err_and c.from_residual.result c.from_residual.ensures.1 in
-    rw p.1 (printed_nothing c.args.text.now.items (fault_line c.args.name.now c.args.line c.args.words.now))
-
-pub returns-in_err-extend_from_slice : goal.returns-in_err-extend_from_slice
-returns-in_err-extend_from_slice c =
-    let p = err_from_is_err_and c.from_residual-in_err-extend_from_slice.result c.from_residual-in_err-extend_from_slice.ensures.1 in
-    let same : c.extend_from_slice.new.self.items ≡ c.args.text.now.items = search rules in
-    rw (p.1, same) (printed_nothing c.args.text.now.items (fault_line c.args.name.now c.args.line c.args.words.now))
+pub returns : goal.returns
+returns c =
+    let name : c.extend_from_slice.new.self.items ≡ c.args.text.now.items ++ c.args.name.now = search rules in
+    let word : c.extend_from_slice-2.new.self.items ≡ c.extend_from_slice.new.self.items ++ codes ": line " = search rules in
+    printed_then c.print_numbered.result _ c.extend_from_slice.new.self.items _ c.args.name.now (codes ": line " ++ decimal c.args.line ++ codes ": " ++ c.args.words.now) name
+    (printed_then c.print_numbered.result _ c.extend_from_slice-2.new.self.items _ (codes ": line ") (decimal c.args.line ++ codes ": " ++ c.args.words.now) word c.print_numbered.ensures)

@@ -2,7 +2,7 @@ use Rattle.std.proofs.Common.{◌≡◌, ℕ, List, [], ◌∷◌, ◌++◌, sym
 use Rattle.ov_topology.specs.Actor.{actor_text}
 use Rattle.ov_journal.specs.Text.{kind_text}
 use Rattle.ov_journal.proofs.Pieces.{entry_pieces}
-use Rattle.ov_journal.proofs.print.line_of.Goals as goal
+use Rattle.ov_journal.proofs.print.print_into.Goals as goal
 
 pub returns : goal.returns
 returns c =
