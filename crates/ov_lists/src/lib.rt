@@ -8,11 +8,15 @@
 //! (`Entries` on insertion and the newest, `Sorting` on windows).
 #![tactic(auto)]
 
+mod block;
+mod blocks;
+mod filing;
 mod lists;
-mod place;
+mod search;
 #[cfg(test)]
 mod tests;
 mod versioned;
 mod window;
+mod within;
 
 pub use lists::VersionLists;
