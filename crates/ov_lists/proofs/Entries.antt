@@ -42,7 +42,7 @@ entry_itself e = pair_itself e.key e.version
 pub entry_one_way : {T : Type 0} (e f : Entry T) → stands_before e f ≡ true → stands_before f e ≡ false
 entry_one_way e f h = false_from_ne_true (stands_before f e) (λ back. both_ways (stands_before e e) (entry_itself e) (entry_trans e f e h back))
 
-less_is : (a b : ℕ) → is_lt (nat_cmp a b) ≡ ltb a b
+pub less_is : (a b : ℕ) → is_lt (nat_cmp a b) ≡ ltb a b
 less_is a b =
     elim (cases_Bool (ltb a b)) [
       | inl less ↦ rw less refl

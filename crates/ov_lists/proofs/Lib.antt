@@ -5,3 +5,4 @@ pub mod Places
 pub mod Numbering
 pub mod Parts
 pub mod Picked
+pub mod NextKey

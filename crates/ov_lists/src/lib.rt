@@ -11,6 +11,7 @@
 mod block;
 mod blocks;
 mod filing;
+mod keys;
 mod lists;
 mod search;
 #[cfg(test)]

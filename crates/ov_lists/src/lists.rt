@@ -2,11 +2,12 @@
 ghost use Rattle.std.specs.Prelude.{◌≡◌, ℕ, ◌<◌, ◌≤◌, ◌+◌, max, [], length, map, insert, IfOk, IsOk, OnOk, OnErr, IsPermutation, vec_len, vec_capacity};
 ghost use Rattle.std.specs.Option.{option_map};
 ghost use Rattle.std.specs.List.{range_with_len};
-ghost use Rattle.ov_lists.specs.Entries.{IsOrdered, Inserts, latest_of, window_of, shown};
+ghost use Rattle.ov_lists.specs.Entries.{IsOrdered, Inserts, latest_of, next_key_of, window_of, shown};
 ghost use Rattle.ov_lists.specs.Parts.{flat, place_in, listed, IsWithin, IsIndex, HasRoom};
 
 use crate::blocks::{Blocks, Position};
 use crate::filing::insert_place;
+use crate::keys::{key_from, key_past};
 use crate::search::{entry_at, is_taken, position_for, position_of};
 use crate::versioned::Versioned;
 use crate::window::{inside, sort_found};
@@ -100,6 +101,18 @@ impl<T> VersionLists<T> {
             Some((entry.version, &entry.item))
         } else {
             None
+        }
+    }
+
+    /// The least key that is at least another, or above it where `past`. None exactly where there is none. Does not allocate.
+    pub fn next_key(&self, from: Key, past: bool) -> Option<Key>
+        ensures { result ≡ next_key_of from past self.now.entries }
+    {
+        let items = self.items.as_slice();
+        if past {
+            key_past(items, &self.blocks, &from)
+        } else {
+            key_from(items, &self.blocks, &from)
         }
     }
 

@@ -6,6 +6,9 @@ use ov_base::{Key, Version};
 use std::cmp::Ordering;
 use std::marker::Model;
 
+/// The number that is above all versions.
+pub const PAST_ALL: u64 = 1 << 63;
+
 /// A key, a version and the item there. Contracts see the bytes of the key and the number of the version.
 #[derive(Drop)]
 pub struct Versioned<T> {

@@ -9,13 +9,10 @@ ghost use Rattle.ov_lists.specs.Places.{AreOutside, Passes};
 
 use crate::blocks::{Blocks, Position};
 use crate::search::{entry_at, position_of};
-use crate::versioned::Versioned;
+use crate::versioned::{Versioned, PAST_ALL};
 use ov_base::{Key, Memory, Version};
 use std::alloc::Global;
 use std::cmp::Ordering;
-
-/// The number that is above all versions.
-const PAST_ALL: u64 = 1 << 63;
 
 /// The entries inside a window, in the order of the list: from key to key, past what lies outside.
 pub fn inside<'a, T>(
