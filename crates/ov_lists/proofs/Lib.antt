@@ -6,3 +6,4 @@ pub mod Numbering
 pub mod Parts
 pub mod Picked
 pub mod NextKey
+pub mod Thinning

@@ -16,6 +16,7 @@ mod lists;
 mod search;
 #[cfg(test)]
 mod tests;
+mod thin;
 mod versioned;
 mod window;
 mod within;
