@@ -1,7 +1,7 @@
 -- Parts of a list: where each begins, and what an edit of one means for the whole.
-use Rattle.std.proofs.Common.{◌≡◌, ℕ, zero, suc, ◌+◌, ◌-◌, ◌<◌, ◌≤◌, List, [], ◌∷◌, ◌++◌, length, get_or, set, take, drop, insert, refl, sym, ap, ◌∙◌, arith}
-use Rattle.std.specs.List.{AllByRecursion}
-use Rattle.std.proofs.lemmas.List.{length-append, append_assoc, get_or_append_left, get_or-append-add, take-append-drop, length-take-le, length-drop}
+use Rattle.std.proofs.Common.{◌≡◌, ℕ, zero, suc, ◌+◌, ◌-◌, ◌*◌, ◌<◌, ◌≤◌, List, [], ◌∷◌, ◌++◌, length, get_or, set, take, drop, insert, refl, sym, ap, ◌∙◌, arith}
+use Rattle.std.specs.List.{AllByRecursion, range_with_len}
+use Rattle.std.proofs.lemmas.List.{length-append, append_assoc, get_or_append_left, get_or-append-add, take-append-drop, append-nil, length-take-le, length-drop}
 use Rattle.std.proofs.lemmas.List.Edits.{length-insert, insert-append_left, insert-append_right}
 use Rattle.ov_lists.specs.Parts.{flat, part_at, start, place_in, IsWithin}
 
@@ -72,6 +72,11 @@ module _ {X : Type 0} where
   flat_add (part ∷ parts) (suc i) x le =
       ap (λ (t : List X). part ++ t) (flat_add parts i x (omega arith)) ∙ sym (insert_behind part (flat parts) (start parts i) x)
 
+  -- a part behind the last is more at the end
+  pub flat_end : (parts : List (List X)) (part : List X) → flat (insert parts (length parts) part) ≡ flat parts ++ part
+  flat_end [] part = append-nil part
+  flat_end (first ∷ parts) part = ap (λ (t : List X). first ++ t) (flat_end parts part) ∙ sym (append_assoc first (flat parts) part)
+
   -- ---- a part in two
 
   -- the parts, of which one is cut in two
@@ -128,3 +133,26 @@ module _ {X : Type 0} where
         flat_put cut next rest x too (omega (arith, upper, splits, le))
         ∙ ap (λ k. insert (flat cut) k x) at
         ∙ ap (λ (t : List X). insert t (place_in parts i offset) x) (ap flat is ∙ flat_in_two parts i n lt)
+
+-- numbers from one on, in two runs
+pub range_in_two : (a n m : ℕ) → range_with_len a (n + m) ≡ range_with_len a n ++ range_with_len (a + n) m
+range_in_two a zero m =
+    let none : 0 + m ≡ m = omega arith in
+    let same : a + 0 ≡ a = omega arith in
+    ap (range_with_len a) none ∙ ap (λ k. range_with_len k m) (sym same)
+range_in_two a (suc n) m =
+    let more : suc n + m ≡ suc (n + m) = omega arith in
+    let same : (a + 1) + n ≡ a + suc n = omega arith in
+    ap (range_with_len a) more ∙ ap (λ (t : List ℕ). a ∷ t) (range_in_two (a + 1) n m ∙ ap (λ k. range_with_len (a + 1) n ++ range_with_len k m) same)
+
+-- one number more
+pub range_next : (start place : ℕ) → start ≤ place → range_with_len start ((place + 1) - start) ≡ range_with_len start (place - start) ++ place ∷ []
+range_next start place le =
+    let next : (place + 1) - start ≡ (place - start) + 1 = omega (arith, le) in
+    let last : start + (place - start) ≡ place = omega (arith, le) in
+    ap (range_with_len start) next ∙ range_in_two start (place - start) 1 ∙ ap (λ (k : ℕ). range_with_len start (place - start) ++ k ∷ []) last
+
+-- parts of at most so many places have at most so many times as many
+pub most_flat : (parts : List (List ℕ)) → AllByRecursion (λ part. (0 < length part) × (length part ≤ 32)) parts → length (flat parts) ≤ 32 * length parts
+most_flat [] h = omega arith
+most_flat (part ∷ parts) h = omega (arith, most_flat parts h.1, h.0.1, length-append part (flat parts))

@@ -1,15 +1,16 @@
 -- The items at places: how many, which, and one more.
-use Rattle.std.proofs.Common.{◌≡◌, ℕ, zero, suc, ◌+◌, ◌<◌, ◌≤◌, List, [], ◌∷◌, ◌++◌, length, get_or, insert, refl, sym, ap, subst, ◌∙◌, arith, IsPermutation}
+use Rattle.std.proofs.Common.{◌≡◌, ℕ, zero, suc, ◌+◌, ◌<◌, ◌≤◌, List, [], ◌∷◌, ◌++◌, length, map, get_or, insert, refl, sym, ap, subst, ◌∙◌, arith, IsPermutation, IsSortedBy}
 use Rattle.std.specs.Prelude.{slice_get}
 use Rattle.std.specs.List.{AllByRecursion, range_with_len}
 use Rattle.std.proofs.lemmas.List.{get_or_default, length-append}
-use Rattle.std.proofs.lemmas.List.FromFn.{length-range_with_len}
+use Rattle.std.proofs.lemmas.List.FromFn.{length-range_with_len, fill_by_all}
 use Rattle.std.proofs.lemmas.List.Elements.{All-from_recursion, recursion_from_All}
-use Rattle.std.proofs.lemmas.List.Sorted.{IsPermutation-sym, IsPermutation-trans, IsPermutation-cons, IsPermutation-to_front, IsPermutation-insert, All-permutation, length_permutation}
+use Rattle.std.proofs.lemmas.List.Sorted.{IsPermutation-refl, IsPermutation-map, IsPermutation-sym, IsPermutation-trans, IsPermutation-cons, IsPermutation-to_front, IsPermutation-insert, All-permutation, length_permutation}
 use Rattle.std.proofs.lemmas.Option.{slice_get-get_or}
 use Rattle.ov_base.proofs.Lists.{all_weaker, get_front, get_next}
-use Rattle.ov_lists.specs.Entries.{Entry}
+use Rattle.ov_lists.specs.Entries.{Entry, stands_before}
 use Rattle.ov_lists.specs.Parts.{flat, picked, listed, IsIndex}
+use Rattle.ov_lists.proofs.Sorting.{Stays, stays_from, ordered_again}
 
 -- ---- all places
 
@@ -77,3 +78,51 @@ index_below items parts h = places_below (length items) (flat parts) h.all
 
 pub count_listed : {T : Type 0} (items : List (Entry T)) (parts : List (List ℕ)) → IsIndex items parts → length (listed items parts) ≡ length (flat parts)
 count_listed items parts h = count_picked items (flat parts) (index_below items parts h)
+
+-- ---- all items
+
+nothing : (places : List ℕ) → length places ≡ 0 → places ≡ []
+nothing [] h = refl
+nothing (p ∷ ps) h = absurd (omega (arith, h))
+
+map_itself : {X : Type 0} (xs : List X) → map (λ x. x) xs ≡ xs
+map_itself [] = refl
+map_itself (x ∷ xs) = ap (λ (t : List _). x ∷ t) (map_itself xs)
+
+picked_map : {X : Type 0} (items : List X) (x : X) (places : List ℕ) → AllByRecursion (λ p. p < length items) places → picked items places ≡ map (λ p. get_or items p x) places
+picked_map items x [] h = refl
+picked_map items x (p ∷ ps) h = rw (slice_get-get_or items p x h.0) (ap (λ (t : List _). get_or items p x ∷ t) (picked_map items x ps h.1))
+
+-- the items at all places in their order are all
+pub picked_all : {X : Type 0} (items : List X) → picked items (range_with_len 0 (length items)) ≡ items
+picked_all [] = refl
+picked_all (x ∷ xs) =
+    picked_map (x ∷ xs) x (range_with_len 0 (length (x ∷ xs))) (range_below 0 (length (x ∷ xs)) (length (x ∷ xs)) (omega arith))
+    ∙ sym (fill_by_all (λ p. get_or (x ∷ xs) p x) (x ∷ xs) (length (x ∷ xs)) x refl (λ k lt. refl))
+
+-- the items at all places in another order are all in another order
+pub picked_moved : {X : Type 0} (items : List X) (places : List ℕ) → IsPermutation (range_with_len 0 (length items)) places → IsPermutation items (picked items places)
+picked_moved {X} [] places h =
+    let none : places ≡ [] = nothing places (omega (arith, length_permutation (range_with_len 0 0) places h)) in
+    subst (λ (t : List ℕ). IsPermutation {X = X} [] (picked {X = X} [] t)) (sym none) (IsPermutation-refl {X = X} [])
+picked_moved (x ∷ xs) places h =
+    let all = range_with_len 0 (length (x ∷ xs)) in
+    subst (λ (t : List _). IsPermutation t (picked (x ∷ xs) places)) (picked_all (x ∷ xs))
+    (subst (λ (t : List _). IsPermutation t (picked (x ∷ xs) places)) (sym (picked_map (x ∷ xs) x all (range_below 0 (length (x ∷ xs)) (length (x ∷ xs)) (omega arith))))
+    (subst (λ (t : List _). IsPermutation (map (λ p. get_or (x ∷ xs) p x) all) t) (sym (picked_map (x ∷ xs) x places (places_below (length (x ∷ xs)) places h)))
+    (IsPermutation-map (λ p. get_or (x ∷ xs) p x) all places h)))
+
+-- items of an index that are sorted are those listed
+pub sorted_listed : {T : Type 0} (items moved : List (Entry T)) (parts : List (List ℕ)) → IsIndex items parts → IsPermutation items moved → IsSortedBy stands_before moved → moved ≡ listed items parts
+sorted_listed {T} items moved parts h same sorted =
+    ordered_again (listed items parts) moved h.ordered
+    (IsPermutation-trans (listed items parts) items moved (IsPermutation-sym items (listed items parts) (picked_moved items (flat parts) h.all)) same)
+    (subst (Stays stands_before) (map_itself moved) (stays_from (λ (e : Entry T). e) stands_before moved sorted))
+
+-- items at all places in their order are listed as they are
+pub listed_all : {X : Type 0} (items : List X) (parts : List (List ℕ)) (count : ℕ) → flat parts ≡ range_with_len 0 count → count ≡ length items → listed items parts ≡ items
+listed_all items parts count places all = ap (picked items) (places ∙ ap (range_with_len 0) all) ∙ picked_all items
+
+-- as many places as items
+pub count_index : {T : Type 0} (items : List (Entry T)) (parts : List (List ℕ)) → IsIndex items parts → length (flat parts) ≡ length items
+count_index items parts h = length_permutation (range_with_len 0 (length items)) (flat parts) h.all ∙ length-range_with_len 0 (length items)

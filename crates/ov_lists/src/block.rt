@@ -1,5 +1,6 @@
 //! A block of places.
-ghost use Rattle.std.specs.Prelude.{◌≡◌, ◌<◌, ◌≤◌, length, insert, take, drop, [], ◌∷◌, slice_index_or};
+ghost use Rattle.std.specs.Prelude.{◌≡◌, ◌<◌, ◌≤◌, ◌+◌, ◌^◌, length, insert, take, drop, [], ◌∷◌, slice_index_or};
+ghost use Rattle.std.specs.List.{range_with_len};
 
 use arrayvec::ArrayVec;
 use std::marker::Model;
@@ -33,6 +34,19 @@ impl Block {
     {
         let mut places = ArrayVec::new();
         places.push(place);
+        Block { places }
+    }
+
+    /// The block of so many places from one on. Condition: they are at most 32.
+    pub fn run(start: usize, size: usize) -> Block
+        requires short { size ≤ 32 }
+        requires end { start + size < 2 ^ 64 }
+        ensures { result ≡ range_with_len start size }
+    {
+        let mut places = ArrayVec::new();
+        for place in start..start + size {
+            places.push(place);
+        }
         Block { places }
     }
 

@@ -1,5 +1,5 @@
 //! Places in blocks, and the blocks in an order.
-ghost use Rattle.std.specs.Prelude.{◌≡◌, ◌<◌, ◌≤◌, ◌+◌, ◌++◌, ◌∷◌, length, insert, take, drop, [], slice_index_or, slice_set, OnOk, vec_len, vec_capacity};
+ghost use Rattle.std.specs.Prelude.{◌≡◌, ◌<◌, ◌≤◌, ◌+◌, ◌*◌, length, insert, take, drop, [], slice_index_or, slice_set, OnOk};
 ghost use Rattle.ov_lists.specs.Parts.{flat, part_at, place_in, AreSome, IsWithin, IsAt};
 
 use crate::block::Block;
@@ -151,6 +151,16 @@ impl Blocks {
     {
         let number = push_within(&mut self.blocks, block);
         insert_within(&mut self.order, at, number);
+    }
+
+    /// Takes all blocks out, and keeps their room.
+    pub fn clear(&mut self)
+        ensures parts { self.new.parts ≡ [] }
+        ensures spare { self.old.spare + length self.old.parts ≤ self.new.spare }
+        ensures most { length (flat self.old.parts) ≤ 32 * length self.old.parts }
+    {
+        self.blocks.clear();
+        self.order.clear();
     }
 
     /// Leaves the lower half in a block, and puts the upper one behind it. The answer is the number of that. Conditions: the

@@ -13,6 +13,7 @@ mod blocks;
 mod filing;
 mod keys;
 mod lists;
+mod refill;
 mod search;
 #[cfg(test)]
 mod tests;

@@ -2,13 +2,15 @@
 ghost use Rattle.std.specs.Prelude.{◌≡◌, ℕ, ◌<◌, ◌≤◌, ◌+◌, max, [], length, map, insert, IfOk, IsOk, OnOk, OnErr, IsPermutation, vec_len, vec_capacity};
 ghost use Rattle.std.specs.Option.{option_map};
 ghost use Rattle.std.specs.List.{range_with_len};
-ghost use Rattle.ov_lists.specs.Entries.{IsOrdered, Inserts, latest_of, next_key_of, window_of, shown};
+ghost use Rattle.ov_lists.specs.Entries.{IsOrdered, Inserts, latest_of, next_key_of, thinned, window_of, shown};
 ghost use Rattle.ov_lists.specs.Parts.{flat, place_in, listed, IsWithin, IsIndex, HasRoom};
 
 use crate::blocks::{Blocks, Position};
 use crate::filing::insert_place;
 use crate::keys::{key_from, key_past};
+use crate::refill::refill;
 use crate::search::{entry_at, is_taken, position_for, position_of};
+use crate::thin::{keep_items, sort_items};
 use crate::versioned::Versioned;
 use crate::window::{inside, sort_found};
 use crate::within::push_within;
@@ -102,6 +104,21 @@ impl<T> VersionLists<T> {
         } else {
             None
         }
+    }
+
+    /// Takes out the entries below a number, but for the newest of each key among them where `keep_last`. The answer is how many
+    /// went. Does not allocate, and what was reserved stays.
+    pub fn thin(&mut self, below: u64, keep_last: bool) -> u64
+    where
+        T: Drop,
+        ensures entries { self.new.entries ≡ thinned below keep_last self.old.entries }
+        ensures gone { result + length self.new.entries ≡ length self.old.entries }
+        ensures spare { self.old.spare ≤ self.new.spare }
+    {
+        sort_items(&mut self.items);
+        let gone = keep_items(&mut self.items, below, keep_last);
+        refill(&mut self.blocks, self.items.as_slice().len());
+        gone as u64
     }
 
     /// The least key that is at least another, or above it where `past`. None exactly where there is none. Does not allocate.
