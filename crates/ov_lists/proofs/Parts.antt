@@ -2,7 +2,7 @@
 use Rattle.std.proofs.Common.{◌≡◌, ℕ, zero, suc, ◌+◌, ◌-◌, ◌*◌, ◌<◌, ◌≤◌, List, [], ◌∷◌, ◌++◌, length, get_or, set, take, drop, insert, refl, sym, ap, ◌∙◌, arith}
 use Rattle.std.specs.List.{AllByRecursion, range_with_len}
 use Rattle.std.proofs.lemmas.List.{length-append, append_assoc, get_or_append_left, get_or-append-add, take-append-drop, append-nil, length-take-le, length-drop}
-use Rattle.std.proofs.lemmas.List.Edits.{length-insert, insert-append_left, insert-append_right}
+use Rattle.std.proofs.lemmas.List.Edits.{insert-append_left, insert-append_right}
 use Rattle.ov_lists.specs.Parts.{flat, part_at, start, place_in, IsWithin}
 
 module _ {X : Type 0} where

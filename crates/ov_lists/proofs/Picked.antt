@@ -1,13 +1,11 @@
 -- The items at places: how many, which, and one more.
 use Rattle.std.proofs.Common.{◌≡◌, ℕ, zero, suc, ◌+◌, ◌<◌, ◌≤◌, List, [], ◌∷◌, ◌++◌, length, map, get_or, insert, refl, sym, ap, subst, ◌∙◌, arith, IsPermutation, IsSortedBy}
-use Rattle.std.specs.Prelude.{slice_get}
 use Rattle.std.specs.List.{AllByRecursion, range_with_len}
-use Rattle.std.proofs.lemmas.List.{get_or_default, length-append}
 use Rattle.std.proofs.lemmas.List.FromFn.{length-range_with_len, fill_by_all}
 use Rattle.std.proofs.lemmas.List.Elements.{All-from_recursion, recursion_from_All}
 use Rattle.std.proofs.lemmas.List.Sorted.{IsPermutation-refl, IsPermutation-map, IsPermutation-sym, IsPermutation-trans, IsPermutation-cons, IsPermutation-to_front, IsPermutation-insert, All-permutation, length_permutation}
 use Rattle.std.proofs.lemmas.Option.{slice_get-get_or}
-use Rattle.ov_base.proofs.Lists.{all_weaker, get_front, get_next}
+use Rattle.ov_base.proofs.Lists.{get_front, get_next}
 use Rattle.ov_lists.specs.Entries.{Entry, stands_before}
 use Rattle.ov_lists.specs.Parts.{flat, picked, listed, IsIndex}
 use Rattle.ov_lists.proofs.Sorting.{Stays, stays_from, ordered_again}

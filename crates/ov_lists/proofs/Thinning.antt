@@ -1,15 +1,15 @@
 -- Entries that stay: each is told by the next, and those that were passed are in front.
 use Rattle.std.proofs.Common.{◌≡◌, ℕ, zero, suc, ◌+◌, ◌<◌, ◌≤◌, Bool, true, false, not, cond, ◌||◌, ◌&&◌, leb, ltb, eqb, List, [], ◌∷◌, ◌++◌, length, get_or, set, take, drop, filter, Option, Some, None, refl, sym, ap, subst, ◌∙◌, arith, inl, inr}
 use Rattle.std.specs.List.{swap}
-use Rattle.std.proofs.lemmas.Bool.{cases_Bool, both_ways, and_from, and_parts, false_from_ne_true, le-leb, leb-true, leb-false, lt-leb, ltb-true, ltb-false, lt-ltb, le-ltb, eqb-true, eq-eqb, cases_lt}
-use Rattle.std.proofs.lemmas.List.{get_or_default, take-set, take-set-le, drop-set-lt, set-set, length-set, append-nil}
+use Rattle.std.proofs.lemmas.Bool.{cases_Bool, both_ways, and_from, false_from_ne_true, le-leb, leb-false, ltb-true, ltb-false, lt-ltb, eqb-true, eq-eqb, cases_lt}
+use Rattle.std.proofs.lemmas.List.{get_or_default, take-set-le, drop-set-lt, set-set, append-nil}
 use Rattle.ov_base.specs.Key.{key_eq}
 use Rattle.ov_base.specs.Lemmas.{key_eq-exact}
 use Rattle.ov_base.proofs.Keys.{key_eq-self}
-use Rattle.ov_lists.specs.Entries.{Entry, is_before, stands_before, IsOrdered, newer, is_below, latest_of, is_version, is_kept, thinned}
+use Rattle.ov_lists.specs.Entries.{Entry, is_before, stands_before, IsOrdered, newer, is_below, latest_of, is_version, is_kept}
 use Rattle.ov_lists.specs.Places.{IsPlace}
 use Rattle.ov_lists.specs.Thin.{is_last, stays_at}
-use Rattle.ov_lists.proofs.Entries.{same_key_before, before_below, below_before, entry_one_way, between}
+use Rattle.ov_lists.proofs.Entries.{same_key_before, below_before, entry_one_way, between}
 use Rattle.ov_lists.proofs.Places.{before_upto, behind_from, far, read_at, latest_here}
 
 -- ---- lists

@@ -1,8 +1,8 @@
 //! One more place in blocks.
 ghost use Rattle.std.specs.Prelude.{◌≡◌, ◌<◌, ◌≤◌, ◌+◌, length, insert};
-ghost use Rattle.ov_lists.specs.Parts.{flat, part_at, start, place_in, IsWithin};
+ghost use Rattle.ov_lists.specs.Parts.{flat, part_at, place_in, IsWithin};
 
-use crate::block::{Block, BLOCK_ROOM, HALF_ROOM};
+use crate::block::{BLOCK_ROOM, Block, HALF_ROOM};
 use crate::blocks::{Blocks, Position};
 
 /// Puts a place at a position. A full block is split, but for a place behind its last, which goes to the front of the next
@@ -37,7 +37,13 @@ fn insert_behind(blocks: &mut Blocks, block: usize, place: usize)
     let count = blocks.count();
     let next = block + 1;
     if next < count && blocks.len_of(next) < BLOCK_ROOM {
-        blocks.put(Position { block: next, offset: 0 }, place);
+        blocks.put(
+            Position {
+                block: next,
+                offset: 0,
+            },
+            place,
+        );
     } else {
         blocks.add(next, Block::of(place));
     }

@@ -5,7 +5,7 @@ ghost use Rattle.ov_lists.specs.Parts.{listed, IsIndex};
 
 use crate::blocks::Blocks;
 use crate::search::{entry_at, position_of};
-use crate::versioned::{Versioned, PAST_ALL};
+use crate::versioned::{PAST_ALL, Versioned};
 use ov_base::Key;
 
 /// The least key that is at least another.

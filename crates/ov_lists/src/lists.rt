@@ -1,5 +1,5 @@
 //! Version lists: items in the order of their insertion, and their places in blocks, in the order of key and version.
-ghost use Rattle.std.specs.Prelude.{◌≡◌, ℕ, ◌<◌, ◌≤◌, ◌+◌, max, [], length, map, insert, IfOk, IsOk, OnOk, OnErr, IsPermutation, vec_len, vec_capacity};
+ghost use Rattle.std.specs.Prelude.{◌≡◌, ℕ, ◌<◌, ◌≤◌, ◌+◌, [], length, map, insert, IfOk, IsOk, OnOk, OnErr, IsPermutation, vec_len, vec_capacity};
 ghost use Rattle.std.specs.Option.{option_map};
 ghost use Rattle.std.specs.List.{range_with_len};
 ghost use Rattle.ov_lists.specs.Entries.{IsOrdered, Inserts, latest_of, next_key_of, thinned, window_of, shown};
@@ -163,7 +163,6 @@ fn make_room<T>(
     ensures ok { IfOk result (λ grown. HasRoom grown (vec_len items.new) (vec_capacity items.new) blocks.new.spare) }
     ensures more { IfOk result (λ grown. more ≤ grown) }
     ensures grown { IfOk result (λ grown. room ≤ grown) }
-    ensures least { IfOk result (λ grown. grown ≤ max room more) }
     ensures err { OnErr result (HasRoom room (vec_len items.new) (vec_capacity items.new) blocks.new.spare) }
     ensures succeeds { more ≤ room → IsOk result }
 {

@@ -3,7 +3,7 @@ ghost use Rattle.std.specs.Prelude.{◌≡◌, ◌≤◌, length};
 ghost use Rattle.std.specs.List.{range_with_len};
 ghost use Rattle.ov_lists.specs.Parts.{flat};
 
-use crate::block::{Block, BLOCK_ROOM};
+use crate::block::{BLOCK_ROOM, Block};
 use crate::blocks::Blocks;
 
 /// Files so many places anew, in their order and in full blocks. Condition: they are no more than were filed. Does not allocate.

@@ -21,12 +21,7 @@ pub fn entry_at<'a, T>(items: &'a [Versioned<T>], blocks: &Blocks, at: Position)
 
 /// The position of a key and number: the entries before it stand before them, and no others. It is behind an entry of its
 /// block, or the front of all.
-pub fn position_of<T>(
-    items: &[Versioned<T>],
-    blocks: &Blocks,
-    key: &Key,
-    number: u64,
-) -> Position
+pub fn position_of<T>(items: &[Versioned<T>], blocks: &Blocks, key: &Key, number: u64) -> Position
     requires { IsIndex items.now blocks.now.parts }
     ensures place { IsPlace key.now number (listed items.now blocks.now.parts) (place_in blocks.now.parts result.block result.offset) }
     ensures within { IsWithin blocks.now.parts result.block result.offset }
@@ -47,12 +42,7 @@ pub fn position_of<T>(
 }
 
 /// The same, found at once where all entries stand before them.
-pub fn position_for<T>(
-    items: &[Versioned<T>],
-    blocks: &Blocks,
-    key: &Key,
-    number: u64,
-) -> Position
+pub fn position_for<T>(items: &[Versioned<T>], blocks: &Blocks, key: &Key, number: u64) -> Position
     requires { IsIndex items.now blocks.now.parts }
     ensures place { IsPlace key.now number (listed items.now blocks.now.parts) (place_in blocks.now.parts result.block result.offset) }
     ensures within { IsWithin blocks.now.parts result.block result.offset }

@@ -9,7 +9,7 @@ ghost use Rattle.ov_lists.specs.Places.{AreOutside, Passes};
 
 use crate::blocks::{Blocks, Position};
 use crate::search::{entry_at, position_of};
-use crate::versioned::{Versioned, PAST_ALL};
+use crate::versioned::{PAST_ALL, Versioned};
 use ov_base::{Key, Memory, Version};
 use std::alloc::Global;
 use std::cmp::Ordering;

@@ -1,4 +1,4 @@
-use Rattle.std.proofs.Common.{◌≡◌, ◌+◌, ◌<◌, ◌≤◌, length, insert, ap, ◌∙◌, arith}
+use Rattle.std.proofs.Common.{◌≡◌, ◌+◌, length, insert, ap, ◌∙◌, arith}
 use Rattle.ov_lists.specs.Parts.{flat, part_at, place_in}
 use Rattle.ov_lists.proofs.Parts.{flat_put, flat_add, front_of_next}
 use Rattle.ov_lists.proofs.filing.insert_behind.Goals as goal

@@ -1,5 +1,5 @@
-use Rattle.std.proofs.Common.{◌≡◌, ◌+◌, ◌-◌, ◌<◌, ◌≤◌, ℕ, List, length, insert, set, take, drop, suc, ap, ◌∙◌, arith}
-use Rattle.ov_lists.specs.Parts.{flat, part_at, place_in}
+use Rattle.std.proofs.Common.{◌≡◌, ◌+◌, ◌-◌, ℕ, List, insert, set, take, drop, suc, ap, ◌∙◌, arith}
+use Rattle.ov_lists.specs.Parts.{flat, part_at}
 use Rattle.ov_lists.proofs.Parts.{in_two, put_lower, put_upper}
 use Rattle.ov_lists.proofs.filing.insert_inside.Goals as goal
 

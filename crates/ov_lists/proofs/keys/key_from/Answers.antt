@@ -1,4 +1,4 @@
-use Rattle.std.proofs.Common.{◌≡◌, Some, arith, sym, ap, ◌∙◌}
+use Rattle.std.proofs.Common.{Some, arith, sym, ap, ◌∙◌}
 use Rattle.ov_lists.specs.Entries.{Entry}
 use Rattle.ov_lists.specs.Parts.{listed}
 use Rattle.ov_lists.proofs.NextKey.{from_at, from_end}

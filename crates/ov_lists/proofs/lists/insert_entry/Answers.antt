@@ -1,7 +1,6 @@
-use Rattle.std.proofs.Common.{◌≡◌, ◌+◌, ℕ, List, [], ◌∷◌, ◌++◌, length, insert, ap, ◌∙◌, arith, IsPermutation}
-use Rattle.std.specs.List.{range_with_len}
+use Rattle.std.proofs.Common.{◌≡◌, ◌+◌, [], ◌∷◌, length, ap, ◌∙◌}
 use Rattle.std.proofs.lemmas.List.{length-append}
-use Rattle.ov_lists.specs.Parts.{flat, place_in, picked}
+use Rattle.ov_lists.specs.Parts.{flat, place_in}
 use Rattle.ov_lists.proofs.Parts.{position_within}
 use Rattle.ov_lists.proofs.Picked.{index_below, picked_insert, places_more}
 use Rattle.ov_lists.proofs.lists.insert_entry.Goals as goal

@@ -1,5 +1,5 @@
-use Rattle.std.proofs.Common.{◌≡◌, ◌+◌, ◌-◌, ◌/◌, ◌<◌, ◌≤◌, ℕ, length, arith, sym, ap}
-use Rattle.ov_lists.specs.Parts.{start, part_at, place_in, listed}
+use Rattle.std.proofs.Common.{◌≡◌, ◌+◌, ◌-◌, ◌/◌, ℕ, arith, sym, ap}
+use Rattle.ov_lists.specs.Parts.{start, place_in, listed}
 use Rattle.ov_lists.proofs.Parts.{start_end}
 use Rattle.ov_lists.proofs.Picked.{count_listed}
 use Rattle.ov_lists.proofs.Places.{before_upto, behind_from}

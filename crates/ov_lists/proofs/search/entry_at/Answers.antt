@@ -1,6 +1,6 @@
-use Rattle.std.proofs.Common.{◌≡◌, ◌<◌, ℕ, length, get_or, sym, subst, ◌∙◌, arith}
+use Rattle.std.proofs.Common.{◌<◌, ℕ, length, sym, subst, ◌∙◌, arith}
 use Rattle.ov_base.proofs.Lists.{all_at}
-use Rattle.ov_lists.specs.Parts.{flat, place_in, listed}
+use Rattle.ov_lists.specs.Parts.{flat, place_in}
 use Rattle.ov_lists.proofs.Picked.{index_below, count_listed, picked_at}
 use Rattle.ov_lists.proofs.search.entry_at.Goals as goal
 

@@ -1,5 +1,5 @@
-use Rattle.std.proofs.Common.{◌≡◌, ◌+◌, ◌-◌, ◌/◌, ◌<◌, ◌≤◌, ℕ, length, arith, sym, ap, subst}
-use Rattle.ov_lists.specs.Parts.{start, part_at, place_in, listed}
+use Rattle.std.proofs.Common.{◌≡◌, ◌+◌, ◌-◌, ◌/◌, ℕ, arith, sym, subst}
+use Rattle.ov_lists.specs.Parts.{place_in, listed}
 use Rattle.ov_lists.specs.Places.{AreBehind}
 use Rattle.ov_lists.proofs.Parts.{front_of_next, ends_within}
 use Rattle.ov_lists.proofs.Picked.{count_listed}

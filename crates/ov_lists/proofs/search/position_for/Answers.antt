@@ -1,5 +1,5 @@
-use Rattle.std.proofs.Common.{◌≡◌, ◌+◌, ◌-◌, ◌<◌, ◌≤◌, ℕ, length, arith, sym, ap}
-use Rattle.ov_lists.specs.Parts.{start, part_at, place_in, listed}
+use Rattle.std.proofs.Common.{◌≡◌, ◌+◌, ◌-◌, ◌<◌, length, arith, sym, ap}
+use Rattle.ov_lists.specs.Parts.{start, place_in, listed}
 use Rattle.ov_lists.proofs.Parts.{front_of_next, start_end}
 use Rattle.ov_lists.proofs.Picked.{count_listed}
 use Rattle.ov_lists.proofs.Places.{before_upto}
@@ -10,8 +10,14 @@ returns-then-is_before-clause-place g c =
     let last : c.count-count.result - 1 < length c.args.blocks.now.parts = omega (arith, c.count-count.ensures.value, c.if-count-gt0.true) in
     let past : (c.count-count.result - 1) + 1 ≡ length c.args.blocks.now.parts = omega (arith, c.count-count.ensures.value, c.if-count-gt0.true) in
     let end : place_in c.args.blocks.now.parts (c.count-count.result - 1) c.len_of-len.result ≡ length (listed c.args.items.now c.args.blocks.now.parts) =
-    omega (arith, front_of_next c.args.blocks.now.parts (c.count-count.result - 1) ((c.count-count.result - 1) + 1) last (omega arith), ap (start c.args.blocks.now.parts) past,
-    start_end c.args.blocks.now.parts, count_listed c.args.items.now c.args.blocks.now.parts c.requires, c.len_of-len.ensures.value) in
+    omega (
+      arith,
+      front_of_next c.args.blocks.now.parts (c.count-count.result - 1) ((c.count-count.result - 1) + 1) last (omega arith),
+      ap (start c.args.blocks.now.parts) past,
+      start_end c.args.blocks.now.parts,
+      count_listed c.args.items.now c.args.blocks.now.parts c.requires,
+      c.len_of-len.ensures.value,
+    ) in
     record {
       within = omega (arith, end);
       before = λ k d under.

@@ -1,4 +1,4 @@
-use Rattle.std.proofs.Common.{◌≡◌, ◌+◌, ◌-◌, ◌<◌, ◌≤◌, ℕ, arith, sym, subst}
+use Rattle.std.proofs.Common.{◌≡◌, ◌+◌, ◌-◌, ℕ, arith, subst}
 use Rattle.ov_lists.specs.Parts.{start, listed}
 use Rattle.ov_lists.specs.Places.{AreBehind}
 use Rattle.ov_lists.proofs.search.position_of.Goals as goal

@@ -1,6 +1,5 @@
-use Rattle.std.proofs.Common.{◌≡◌, ◌+◌, ◌<◌, ◌≤◌, ℕ, suc, true, false, List, length, take, drop, filter, arith, sym, ap, subst, ◌∙◌}
+use Rattle.std.proofs.Common.{◌≡◌, ◌+◌, ◌<◌, suc, List, length, take, drop, filter, arith, sym, ap, ◌∙◌}
 use Rattle.std.specs.Prelude.{vec_capacity}
-use Rattle.std.specs.List.{swap}
 use Rattle.std.proofs.lemmas.List.Edits.{length-swap}
 use Rattle.ov_lists.specs.Entries.{Entry, is_kept}
 use Rattle.ov_lists.specs.Thin.{stays_at}

@@ -1,5 +1,5 @@
-use Rattle.std.proofs.Common.{◌≡◌, ◌<◌, ◌+◌, ◌≤◌, Bool, true, false, not, ◌||◌, ◌&&◌, leb, length, get_or, refl, sym, ap, arith, ◌∙◌, inl, inr}
-use Rattle.std.proofs.lemmas.Bool.{le-leb, lt-leb}
+use Rattle.std.proofs.Common.{◌≡◌, ◌<◌, ◌+◌, false, not, ◌||◌, ◌&&◌, leb, length, get_or, sym, ap, arith, ◌∙◌}
+use Rattle.std.proofs.lemmas.Bool.{lt-leb}
 use Rattle.std.proofs.lemmas.List.{get_or_default}
 use Rattle.ov_lists.specs.Entries.{Entry, is_below}
 use Rattle.ov_lists.proofs.Thinning.{stays_end, stays_next, stays_high}

@@ -1,4 +1,4 @@
-use Rattle.std.proofs.Common.{◌≡◌, length, take, filter, arith, sym, ap, ◌∙◌}
+use Rattle.std.proofs.Common.{filter, arith, sym, ap, ◌∙◌}
 use Rattle.std.proofs.lemmas.List.{take_all}
 use Rattle.ov_lists.specs.Entries.{is_inside}
 use Rattle.ov_lists.specs.Parts.{place_in, listed}

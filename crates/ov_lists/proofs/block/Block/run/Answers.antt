@@ -1,4 +1,4 @@
-use Rattle.std.proofs.Common.{◌≡◌, ◌+◌, ◌≤◌, length, arith, sym, ap, ◌∙◌, ◌++◌, ◌∷◌, []}
+use Rattle.std.proofs.Common.{length, arith, sym, ap, ◌∙◌, ◌++◌, ◌∷◌, []}
 use Rattle.ov_lists.proofs.Parts.{range_next}
 use Rattle.ov_lists.proofs.block.Block.run.Goals as goal
 

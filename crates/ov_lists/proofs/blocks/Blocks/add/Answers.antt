@@ -1,5 +1,5 @@
-use Rattle.std.proofs.Common.{◌≡◌, ◌+◌, ◌≤◌, ℕ, List, [], ◌∷◌, ◌++◌, length, insert, sym, ap, subst, ◌∙◌, arith}
-use Rattle.ov_lists.specs.Parts.{Cut, IsFiled, in_order}
+use Rattle.std.proofs.Common.{◌≤◌, ℕ, List, length, insert, ap, ◌∙◌, arith}
+use Rattle.ov_lists.specs.Parts.{Cut}
 use Rattle.ov_lists.proofs.Numbering.{count_in_order, filed_add, add_in_order}
 use Rattle.ov_lists.proofs.blocks.Blocks.add.Goals as goal
 

@@ -1,4 +1,4 @@
-use Rattle.std.proofs.Common.{◌≤◌, ◌*◌, ◌<◌, ℕ, List, length, ap, subst}
+use Rattle.std.proofs.Common.{◌≤◌, ◌<◌, ℕ, List, length, ap, subst}
 use Rattle.std.specs.List.{AllByRecursion}
 use Rattle.ov_lists.specs.Parts.{Cut}
 use Rattle.ov_lists.proofs.Parts.{most_flat}

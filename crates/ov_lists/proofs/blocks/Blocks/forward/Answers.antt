@@ -1,5 +1,5 @@
-use Rattle.std.proofs.Common.{◌≡◌, ◌+◌, ◌<◌, ◌≤◌, length, ap, arith}
-use Rattle.ov_lists.specs.Parts.{start, part_at, place_in}
+use Rattle.std.proofs.Common.{◌≡◌, ◌+◌, ◌<◌, length, ap, arith}
+use Rattle.ov_lists.specs.Parts.{start}
 use Rattle.ov_lists.proofs.Parts.{front_of_next, start_end}
 use Rattle.ov_lists.proofs.blocks.Blocks.forward.Goals as goal
 

@@ -1,5 +1,5 @@
-use Rattle.std.proofs.Common.{◌≡◌, ◌<◌, ℕ, List, length, get_or, sym, ap, subst, ◌∙◌, arith}
-use Rattle.ov_lists.specs.Parts.{Cut, part_at}
+use Rattle.std.proofs.Common.{ℕ, List, get_or, sym, ap, ◌∙◌, arith}
+use Rattle.ov_lists.specs.Parts.{Cut}
 use Rattle.ov_lists.proofs.Numbering.{read_block}
 use Rattle.ov_lists.proofs.Parts.{flat_at, ends_within}
 use Rattle.ov_lists.proofs.blocks.Blocks.place.Goals as goal

@@ -1,6 +1,6 @@
-use Rattle.std.proofs.Common.{◌≡◌, ◌+◌, ◌<◌, ℕ, List, length, get_or, set, insert, sym, ap, subst, ◌∙◌, arith}
+use Rattle.std.proofs.Common.{◌≡◌, ◌+◌, ℕ, List, length, set, insert, ap, ◌∙◌, arith}
 use Rattle.std.proofs.lemmas.List.Edits.{length-insert}
-use Rattle.ov_lists.specs.Parts.{Cut, part_at}
+use Rattle.ov_lists.specs.Parts.{Cut}
 use Rattle.ov_lists.proofs.Numbering.{read_block, filed_set, set_in_order}
 use Rattle.ov_lists.proofs.blocks.Blocks.put.Goals as goal
 

@@ -1,6 +1,6 @@
-use Rattle.std.proofs.Common.{◌≡◌, ℕ, false, List, refl, arith, sym, subst, ap, ◌∙◌, insert}
+use Rattle.std.proofs.Common.{◌≡◌, ℕ, false, List, arith, sym, subst, ap, ◌∙◌, insert}
 use Rattle.ov_lists.specs.Entries.{Entry, Contents, IsOrdered, has_pair, inserted}
-use Rattle.ov_lists.specs.Parts.{place_in, listed, IsIndex, HasRoom}
+use Rattle.ov_lists.specs.Parts.{place_in, listed}
 use Rattle.ov_lists.specs.Places.{IsPlace}
 use Rattle.ov_lists.proofs.Entries.{ordered_inserted}
 use Rattle.ov_lists.proofs.Places.{inserted_at}
@@ -21,14 +21,16 @@ invariant_of-self-2 g c =
     let lacks : has_pair c.args.key c.args.version (listed c.self.inside.items.items c.self.inside.blocks.parts) ≡ false = rw (← c.as_slice-items.ensures.value) (sym c.if-is_taken.ensures) in
     let at = c.insert_entry.ensures.entries ∙ given new c.self.inside.items.items c.as_slice-items.result.now c.make_room.new.items.items c.self.inside.blocks.parts c.make_room.new.blocks.parts c.number.result
     c.position_for-at.result.block c.position_for-at.result.offset c.as_slice-items.ensures.value c.in_ok-room.ensures.items c.in_ok-room.ensures.parts c.number.ensures.value c.position_for-at.ensures.place in
-    let room = c.in_ok-room.ensures.ok in
-    (record {
-      all = c.insert_entry.ensures.all;
-      ordered = subst (λ (t : List (Entry _)). IsOrdered t) (sym at) (ordered_inserted new (listed c.self.inside.items.items c.self.inside.blocks.parts) c.self.invariant.0.ordered lacks);
-    }, record {
-      items = omega (arith, room.items, c.in_ok-room.ensures.more, c.insert_entry.ensures.len, c.insert_entry.ensures.capacity);
-      blocks = omega (arith, room.blocks, c.in_ok-room.ensures.more, c.insert_entry.ensures.spare);
-    })
+    let room = c.in_ok-room.ensures.ok in (
+      record {
+        all = c.insert_entry.ensures.all;
+        ordered = subst (λ (t : List (Entry _)). IsOrdered t) (sym at) (ordered_inserted new (listed c.self.inside.items.items c.self.inside.blocks.parts) c.self.invariant.0.ordered lacks);
+      },
+      record {
+        items = omega (arith, room.items, c.in_ok-room.ensures.more, c.insert_entry.ensures.len, c.insert_entry.ensures.capacity);
+        blocks = omega (arith, room.blocks, c.in_ok-room.ensures.more, c.insert_entry.ensures.spare);
+      },
+    )
 
 pub returns-clause-inserts : goal.returns-clause-inserts
 returns-clause-inserts g c =

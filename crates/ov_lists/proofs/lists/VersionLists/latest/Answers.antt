@@ -1,4 +1,4 @@
-use Rattle.std.proofs.Common.{◌≡◌, ◌-◌, ◌+◌, ℕ, true, false, List, Some, None, refl, arith, sym, subst, ap, ◌∙◌}
+use Rattle.std.proofs.Common.{◌≡◌, ◌-◌, true, false, List, Some, None, refl, arith, sym, subst, ap, ◌∙◌}
 use Rattle.ov_base.specs.Key.{key_eq}
 use Rattle.ov_lists.specs.Entries.{Entry, Contents, IsOrdered, latest_of}
 use Rattle.ov_lists.specs.Parts.{start, place_in, listed}
