@@ -7,3 +7,4 @@ pub mod Parts
 pub mod Picked
 pub mod NextKey
 pub mod Thinning
+pub mod Laws

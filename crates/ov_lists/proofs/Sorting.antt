@@ -177,7 +177,7 @@ pub window_among : {T : Type 0} (from below : ℕ) (entries : List (Entry T)) �
 window_among from below entries =
     all_by_version (Holds entries) (filter (is_inside from below) entries) (all_filter (is_inside from below) (Holds entries) entries (holds_each entries))
 
-holds_passing : {A : Type 0} (p : A → Bool) (xs : List A) (x : A) → Holds xs x → p x ≡ true → Holds (filter p xs) x
+pub holds_passing : {A : Type 0} (p : A → Bool) (xs : List A) (x : A) → Holds xs x → p x ≡ true → Holds (filter p xs) x
 holds_passing p [] x h passes = absurd h
 holds_passing p (y ∷ ys) x h passes =
     elim (cases_Bool (p y)) [

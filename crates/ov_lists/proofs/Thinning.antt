@@ -99,7 +99,7 @@ stays_from below keep_last (x ∷ xs) (suc place) = stays_from below keep_last x
 
 -- ---- the newest below a number
 
-first_reaches : {T : Type 0} (f : Entry T) (o : Option (Entry T)) → (g : Entry T) × ((newer (Some f) o ≡ Some g) × (f.version ≤ g.version))
+pub first_reaches : {T : Type 0} (f : Entry T) (o : Option (Entry T)) → (g : Entry T) × ((newer (Some f) o ≡ Some g) × (f.version ≤ g.version))
 first_reaches f None = (f, (refl, omega arith))
 first_reaches f (Some y) =
     elim (cases_Bool (ltb f.version y.version)) [
@@ -107,7 +107,7 @@ first_reaches f (Some y) =
       | inr more ↦ (f, (rw more refl, omega arith))
     ]
 
-next_reaches : {T : Type 0} (b : Bool) (x : Entry T) (o : Option (Entry T)) (version : ℕ) (g : Entry T) → o ≡ Some g → version ≤ g.version
+pub next_reaches : {T : Type 0} (b : Bool) (x : Entry T) (o : Option (Entry T)) (version : ℕ) (g : Entry T) → o ≡ Some g → version ≤ g.version
     → (h : Entry T) × ((newer (cond b (Some x) None) o ≡ Some h) × (version ≤ h.version))
 next_reaches false x o version g is le = (g, (is, le))
 next_reaches true x o version g is le =
