@@ -25,6 +25,9 @@ on_pairs p q = pair_cmp p.0 p.1 q.0 q.1
 pairs_total : IsTotalOrder on_pairs
 pairs_total = then_total (on_total (λ (p : List ℕ × ℕ). p.0) nat_list_cmp_total) (on_total (λ (p : List ℕ × ℕ). p.1) nat_cmp_total)
 
+pub entries_total : {T : Type 0} → IsTotalOrder (λ (e f : Entry T). pair_cmp e.key e.version f.key f.version)
+entries_total {T} = then_total (on_total (λ (e : Entry T). e.key) nat_list_cmp_total) (on_total (λ (e : Entry T). e.version) nat_cmp_total)
+
 pub pair_trans : (key₁ : List ℕ) (version₁ : ℕ) (key₂ : List ℕ) (version₂ : ℕ) (key₃ : List ℕ) (version₃ : ℕ)
     → is_before key₁ version₁ key₂ version₂ ≡ true → is_before key₂ version₂ key₃ version₃ ≡ true → is_before key₁ version₁ key₃ version₃ ≡ true
 pair_trans key₁ version₁ key₂ version₂ key₃ version₃ a b = before_trans pairs_total (key₁, version₁) (key₂, version₂) (key₃, version₃) a b
@@ -42,7 +45,7 @@ entry_itself e = pair_itself e.key e.version
 pub entry_one_way : {T : Type 0} (e f : Entry T) → stands_before e f ≡ true → stands_before f e ≡ false
 entry_one_way e f h = false_from_ne_true (stands_before f e) (λ back. both_ways (stands_before e e) (entry_itself e) (entry_trans e f e h back))
 
-less_is : (a b : ℕ) → is_lt (nat_cmp a b) ≡ ltb a b
+pub less_is : (a b : ℕ) → is_lt (nat_cmp a b) ≡ ltb a b
 less_is a b =
     elim (cases_Bool (ltb a b)) [
       | inl less ↦ rw less refl

@@ -2,3 +2,9 @@ pub mod Orders
 pub mod Entries
 pub mod Sorting
 pub mod Places
+pub mod Numbering
+pub mod Parts
+pub mod Picked
+pub mod NextKey
+pub mod Thinning
+pub mod Laws

@@ -15,7 +15,7 @@ use Rattle.ov_lists.specs.Entries.{Entry, stands_before, is_earlier, IsOrdered, 
 use Rattle.ov_base.proofs.Lists.{all_weaker, all_filter}
 use Rattle.ov_base.proofs.Orders.{before_trans, before_itself}
 use Rattle.ov_lists.proofs.Orders.{all_put, Rises, rises_from, rises_put, rises_filter, ascends_from, Holds, all_holds, holds_each, holds_new, holds_old, rises_unique}
-use Rattle.ov_lists.proofs.Entries.{entry_trans, entry_itself, at_pair, pair_at, sides, then_equal, equal_from}
+use Rattle.ov_lists.proofs.Entries.{entry_trans, entry_itself, at_pair, pair_at, sides, then_equal, equal_from, apart, ordered_unique}
 
 -- ---- the order by version and then key
 
@@ -100,11 +100,12 @@ stays_from f before [] h = tt
 stays_from f before (x ∷ []) h = (tt, tt)
 stays_from f before (x ∷ y ∷ ys) h = (h 0 x (omega arith) (omega arith), stays_from f before (y ∷ ys) (λ k d low high. let next : suc k + 1 ≡ suc (k + 1) = omega arith in rw next at (h (suc k) d (omega arith) (omega arith))))
 
--- entries of different pairs that stay in order ascend
-pub ascends_from_stays : {T : Type 0} (entries : List (Entry T)) → Stays is_earlier entries → ((key : List ℕ) (version : ℕ) → times key version entries ≤ 1) → Ascends is_earlier entries
-ascends_from_stays [] h once = tt
-ascends_from_stays (e ∷ []) h once = (tt, tt)
-ascends_from_stays {T} (e ∷ f ∷ es) h once =
+-- entries of different pairs that stay in an order ascend, where it tells different pairs apart
+pub ascends_from_stays : {T : Type 0} (before : Entry T → Entry T → Bool) → ((e f : Entry T) → is_at f.key f.version e ≡ false → (before e f ≡ true) ⊎ (before f e ≡ true))
+    → (entries : List (Entry T)) → Stays before entries → ((key : List ℕ) (version : ℕ) → times key version entries ≤ 1) → Ascends before entries
+ascends_from_stays before apart [] h once = tt
+ascends_from_stays before apart (e ∷ []) h once = (tt, tt)
+ascends_from_stays {T} before apart (e ∷ f ∷ es) h once =
     let first = sum_by-cons (counted f.key f.version) e (f ∷ es) in
     let second = sum_by-cons (counted f.key f.version) f es in
     let here : counted f.key f.version f ≡ 1 = rw (pair_at f.key f.version f refl refl) refl in
@@ -112,8 +113,18 @@ ascends_from_stays {T} (e ∷ f ∷ es) h once =
     false_from_ne_true (is_at f.key f.version e) (λ there.
     let too : counted f.key f.version e ≡ 1 = rw there refl in
     omega (arith, first, second, here, too, once f.key f.version)) in
-    let before : is_earlier e f ≡ true = elim (earlier_apart e f other) [ inl less ↦ less | inr more ↦ absurd (both_ways (is_earlier f e) h.0 more) ] in
-    (before, ascends_from_stays (f ∷ es) h.1 (λ key version. omega (arith, sum_by-cons (counted key version) e (f ∷ es), once key version)))
+    let stands : before e f ≡ true = elim (apart e f other) [ inl less ↦ less | inr more ↦ absurd (both_ways (before f e) h.0 more) ] in
+    (stands, ascends_from_stays before apart (f ∷ es) h.1 (λ key version. omega (arith, sum_by-cons (counted key version) e (f ∷ es), once key version)))
+
+-- entries in order that were moved until none stands before the one that it follows are as they were
+pub ordered_again : {T : Type 0} (entries moved : List (Entry T)) → IsOrdered entries → IsPermutation entries moved → Stays stands_before moved → moved ≡ entries
+ordered_again {T} entries moved ordered same stays =
+    let rises = rises_from stands_before entry_trans entries ordered in
+    let once = λ (key : List ℕ) (version : ℕ). subst (λ (n : ℕ). n ≤ 1) (sym (sum_by-IsPermutation (counted key version) entries moved same)) (times_once entries rises key version) in
+    let there = recursion_from_All (Holds entries) moved (All-permutation (Holds entries) entries moved same (All-from_recursion (Holds entries) entries (holds_each entries))) in
+    let back = recursion_from_All (Holds moved) entries
+    (All-permutation (Holds moved) moved entries (IsPermutation-sym entries moved same) (All-from_recursion (Holds moved) moved (holds_each moved))) in
+    ordered_unique moved entries (ascends_from_stays stands_before apart moved stays once) ordered there back
 
 -- ---- the entries by version and then key
 
@@ -140,7 +151,7 @@ pub sorted_is : {T : Type 0} (entries moved : List (Entry T)) → IsOrdered entr
 sorted_is {T} entries moved ordered same stays =
     let rises = rises_from stands_before entry_trans entries ordered in
     let once = λ (key : List ℕ) (version : ℕ). subst (λ (n : ℕ). n ≤ 1) (sym (sum_by-IsPermutation (counted key version) entries moved same)) (times_once entries rises key version) in
-    let up = rises_from is_earlier earlier_trans moved (ascends_from_stays moved stays once) in
+    let up = rises_from is_earlier earlier_trans moved (ascends_from_stays is_earlier earlier_apart moved stays once) in
     let there = recursion_from_All (Holds (by_version entries)) moved
     (All-permutation (Holds (by_version entries)) entries moved same (All-from_recursion (Holds (by_version entries)) entries (holds_by_version entries))) in
     let back = all_by_version (Holds moved) entries (recursion_from_All (Holds moved) entries
@@ -166,7 +177,7 @@ pub window_among : {T : Type 0} (from below : ℕ) (entries : List (Entry T)) �
 window_among from below entries =
     all_by_version (Holds entries) (filter (is_inside from below) entries) (all_filter (is_inside from below) (Holds entries) entries (holds_each entries))
 
-holds_passing : {A : Type 0} (p : A → Bool) (xs : List A) (x : A) → Holds xs x → p x ≡ true → Holds (filter p xs) x
+pub holds_passing : {A : Type 0} (p : A → Bool) (xs : List A) (x : A) → Holds xs x → p x ≡ true → Holds (filter p xs) x
 holds_passing p [] x h passes = absurd h
 holds_passing p (y ∷ ys) x h passes =
     elim (cases_Bool (p y)) [

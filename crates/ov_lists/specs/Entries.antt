@@ -1,5 +1,5 @@
 -- What contracts see of version lists: entries in the order of key and then version.
-use Rattle.std.specs.Prelude.{◌≡◌, ℕ, ◌+◌, ◌≤◌, ◌==◌, Bool, true, false, ◌&&◌, ◌||◌, nat_le, nat_lt, List, [], ◌∷◌, Option, Some, None, if◌then◌else◌}
+use Rattle.std.specs.Prelude.{◌≡◌, ℕ, ◌+◌, ◌≤◌, ◌==◌, Bool, true, false, not, ◌&&◌, ◌||◌, nat_le, nat_lt, List, [], ◌∷◌, Option, Some, None, if◌then◌else◌}
 use Rattle.std.specs.Borrow.{Bor}
 use Rattle.std.specs.Cmp.Lexicographic.{slice_cmp}
 use Rattle.std.specs.List.{filter}
@@ -112,3 +112,29 @@ shown x = record { key = x.1; version = x.0; item = x.2.now }
 abbrev pub Inserts : {T : Type 0} → Contents T → Contents T → Entry T → Bool → Type 0
 Inserts old new e true = (has_pair e.key e.version old.entries ≡ false) × ((new.entries ≡ inserted e old.entries) × (old.spare ≤ new.spare + 1))
 Inserts old new e false = (has_pair e.key e.version old.entries ≡ true) × (new ≡ old)
+
+-- ---- the next key
+
+-- whether a key is at least another, or above it where that itself is passed
+abbrev pub is_from : List ℕ → Bool → List ℕ → Bool
+is_from from past key = if past then is_lt (slice_cmp nat_cmp from key) else not (is_lt (slice_cmp nat_cmp key from))
+
+-- the key of the first entry whose key is at least another, or above it: of entries in order the least such key
+abbrev pub next_key_of : {T : Type 0} → List ℕ → Bool → List (Entry T) → Option (List ℕ)
+next_key_of from past [] = None
+next_key_of from past (e ∷ es) = if is_from from past e.key then Some e.key else next_key_of from past es
+
+-- ---- what stays of entries
+
+-- whether an entry that may be there is of this version
+abbrev pub is_version : {T : Type 0} → ℕ → Option (Entry T) → Bool
+is_version version None = false
+is_version version (Some e) = e.version == version
+
+-- whether an entry stays: it is not below the number, or it is the newest of its key below it, where those are kept
+abbrev pub is_kept : {T : Type 0} → ℕ → Bool → List (Entry T) → Entry T → Bool
+is_kept below keep_last entries e = nat_le below e.version || (keep_last && is_version e.version (latest_of e.key below entries))
+
+-- the entries that stay
+abbrev pub thinned : {T : Type 0} → ℕ → Bool → List (Entry T) → List (Entry T)
+thinned below keep_last entries = filter (is_kept below keep_last entries) entries

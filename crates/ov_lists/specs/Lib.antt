@@ -1,2 +1,4 @@
 pub mod Entries
 pub mod Places
+pub mod Parts
+pub mod Thin

@@ -1,4 +1,4 @@
-//! Version lists of numbers on a worked example: five insertions, of which one is repeated.
+//! Version lists of numbers on worked examples: five insertions, of which one is repeated, and four of which some go.
 use crate::VersionLists;
 use ov_base::{Key, Version};
 use std::alloc::Global;
@@ -58,6 +58,32 @@ fn a_window_has_its_lower_end_and_lacks_its_upper_one(rt: HostRuntime) -> Result
             found.push(**item)?;
         }
         assert_eq!(rt; found.as_slice(), items, "{from} {below}");
+    }
+    Ok(())
+}
+
+#[test]
+fn the_next_key_is_found_and_old_versions_go(rt: HostRuntime) -> Result<(), Fail> {
+    let mut lists = VersionLists::new(rt.alloc());
+    let x = Key::from_bytes(b"x").ok_or("a key")?;
+    let y = Key::from_bytes(b"y").ok_or("a key")?;
+    for (key, time) in [(x, 1), (x, 2), (x, 3), (y, 1)] {
+        let version = Version::new(time, 0).ok_or("a version")?;
+        assert!(rt; lists.insert(key, version, time)?);
+    }
+    assert!(rt; lists.next_key(x, false) == Some(x));
+    assert!(rt; lists.next_key(x, true) == Some(y));
+    assert!(rt; lists.next_key(y, true) == None);
+    for (keep_last, gone, left) in [
+        (true, 1, [(y, 1u64), (x, 2), (x, 3)].as_slice()),
+        (false, 2, [(x, 3u64)].as_slice()),
+    ] {
+        assert_eq!(rt; lists.thin(196_608, keep_last), gone);
+        let mut found = Vec::new(rt.alloc());
+        for (_, key, item) in lists.window(0, 1 << 63)?.as_slice() {
+            found.push((*key, **item))?;
+        }
+        assert!(rt; found.as_slice() == left);
     }
     Ok(())
 }

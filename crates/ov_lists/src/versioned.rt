@@ -1,10 +1,13 @@
 //! One entry of version lists.
 ghost use Rattle.std.specs.Prelude.{◌≡◌};
-ghost use Rattle.ov_lists.specs.Entries.{is_before, is_at, is_inside, shown};
+ghost use Rattle.ov_lists.specs.Entries.{is_before, is_at, is_below, is_inside, shown};
 
 use ov_base::{Key, Version};
 use std::cmp::Ordering;
 use std::marker::Model;
+
+/// The number that is above all versions.
+pub const PAST_ALL: u64 = 1 << 63;
 
 /// A key, a version and the item there. Contracts see the bytes of the key and the number of the version.
 #[derive(Drop)]
@@ -39,6 +42,13 @@ impl<T> Versioned<T> {
         ensures { result ≡ is_at key.now version self.now }
     {
         self.key == *key && self.version.number() == version.number()
+    }
+
+    /// Whether it is of this key and below the number.
+    pub fn is_below(&self, key: &Key, below: u64) -> bool
+        ensures { result ≡ is_below key.now below self.now }
+    {
+        self.key == *key && self.version.number() < below
     }
 
     /// Whether it lies in the window.

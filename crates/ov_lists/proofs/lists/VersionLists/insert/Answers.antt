@@ -1,32 +1,46 @@
-use Rattle.std.proofs.Common.{◌≡◌, ℕ, false, List, arith, sym, subst, ap, insert}
-use Rattle.ov_lists.specs.Entries.{Entry, Contents, has_pair, inserted}
+use Rattle.std.proofs.Common.{◌≡◌, ℕ, false, List, arith, sym, subst, ap, ◌∙◌, insert}
+use Rattle.ov_lists.specs.Entries.{Entry, Contents, IsOrdered, has_pair, inserted}
+use Rattle.ov_lists.specs.Parts.{place_in, listed}
 use Rattle.ov_lists.specs.Places.{IsPlace}
 use Rattle.ov_lists.proofs.Entries.{ordered_inserted}
 use Rattle.ov_lists.proofs.Places.{inserted_at}
 use Rattle.ov_lists.proofs.lists.VersionLists.insert.Goals as goal
 
--- what an entry at its place gives, where the place was found in what was read of the entries
-given : {T : Type 0} (new : Entry T) (entries read : List (Entry T)) (number place : ℕ)
-    → read ≡ entries → number ≡ new.version → IsPlace new.key number read place → inserted new entries ≡ insert entries place new
-given {T} new entries read number place same version h =
-    let here = subst (λ (t : List (Entry T)). IsPlace new.key number t place) same h in
-    inserted_at new entries place (subst (λ (n : ℕ). IsPlace new.key n entries place) version here)
+-- what an entry at its place gives, where the place was found in what was read of the items, and the items have more room
+given : {T : Type 0} (new : Entry T) (items read roomy : List (Entry T)) (parts wide : List (List ℕ)) (number block offset : ℕ)
+    → read ≡ items → roomy ≡ items → wide ≡ parts → number ≡ new.version → IsPlace new.key number (listed read parts) (place_in parts block offset)
+    → insert (listed roomy wide) (place_in wide block offset) new ≡ inserted new (listed items parts)
+given {T} new items read roomy parts wide number block offset same kept cut version h =
+    let here = subst (λ (t : List (Entry T)). IsPlace new.key number (listed t parts) (place_in parts block offset)) same h in
+    let there = subst (λ (n : ℕ). IsPlace new.key n (listed items parts) (place_in parts block offset)) version here in
+    rw (kept, cut) (sym (inserted_at new (listed items parts) (place_in parts block offset) there))
 
-pub invariant_of-self : goal.invariant_of-self
-invariant_of-self g c =
+pub invariant_of-self-2 : goal.invariant_of-self-2
+invariant_of-self-2 g c =
     let new : Entry _ = record { key = c.args.key; version = c.args.version; item = c.args.item } in
-    let lacks : has_pair c.args.key c.args.version c.self.inside.entries.items ≡ false = rw (← c.as_slice-2.ensures.value) (sym c.if-is_taken.ensures) in
-    let at = given new c.self.inside.entries.items c.as_slice.result.now c.number.result c.place_for-place.result c.as_slice.ensures.value c.number.ensures.value c.place_for-place.ensures in
-    rw (c.insert_within.ensures.items, c.in-Ok.ensures.items, ← at) (ordered_inserted new c.self.inside.entries.items c.self.invariant lacks)
+    let lacks : has_pair c.args.key c.args.version (listed c.self.inside.items.items c.self.inside.blocks.parts) ≡ false = rw (← c.as_slice-items.ensures.value) (sym c.if-is_taken.ensures) in
+    let at = c.insert_entry.ensures.entries ∙ given new c.self.inside.items.items c.as_slice-items.result.now c.make_room.new.items.items c.self.inside.blocks.parts c.make_room.new.blocks.parts c.number.result
+    c.position_for-at.result.block c.position_for-at.result.offset c.as_slice-items.ensures.value c.in_ok-room.ensures.items c.in_ok-room.ensures.parts c.number.ensures.value c.position_for-at.ensures.place in
+    let room = c.in_ok-room.ensures.ok in (
+      record {
+        all = c.insert_entry.ensures.all;
+        ordered = subst (λ (t : List (Entry _)). IsOrdered t) (sym at) (ordered_inserted new (listed c.self.inside.items.items c.self.inside.blocks.parts) c.self.invariant.0.ordered lacks);
+      },
+      record {
+        items = omega (arith, room.items, c.in_ok-room.ensures.more, c.insert_entry.ensures.len, c.insert_entry.ensures.capacity);
+        blocks = omega (arith, room.blocks, c.in_ok-room.ensures.more, c.insert_entry.ensures.spare);
+      },
+    )
 
-pub returns-in-Ok-clause-inserts : goal.returns-in-Ok-clause-inserts
-returns-in-Ok-clause-inserts g c =
+pub returns-clause-inserts : goal.returns-clause-inserts
+returns-clause-inserts g c =
     let new : Entry _ = record { key = c.args.key; version = c.args.version; item = c.args.item } in
     let sees = ap (λ (s : Contents _). s.entries) c.self.view_is in
     let spare = ap (λ (s : Contents _). s.spare) c.self.view_is in
-    let lacks : has_pair c.args.key c.args.version c.self.inside.entries.items ≡ false = rw (← c.as_slice-2.ensures.value) (sym c.if-is_taken.ensures) in
-    let at = given new c.self.inside.entries.items c.as_slice.result.now c.number.result c.place_for-place.result c.as_slice.ensures.value c.number.ensures.value c.place_for-place.ensures in
-    (rw (← sees) lacks, (rw (← sees, c.insert_within.ensures.items, c.in-Ok.ensures.items) (sym at), omega (arith, spare, c.insert_within.ensures.len, c.insert_within.ensures.capacity, c.in-Ok.ensures.len, c.in-Ok.ensures.capacity)))
+    let lacks : has_pair c.args.key c.args.version (listed c.self.inside.items.items c.self.inside.blocks.parts) ≡ false = rw (← c.as_slice-items.ensures.value) (sym c.if-is_taken.ensures) in
+    let at = c.insert_entry.ensures.entries ∙ given new c.self.inside.items.items c.as_slice-items.result.now c.make_room.new.items.items c.self.inside.blocks.parts c.make_room.new.blocks.parts c.number.result
+    c.position_for-at.result.block c.position_for-at.result.offset c.as_slice-items.ensures.value c.in_ok-room.ensures.items c.in_ok-room.ensures.parts c.number.ensures.value c.position_for-at.ensures.place in
+    (rw (← sees) lacks, (rw (← sees) at, omega (arith, spare, c.in_ok-room.ensures.grown)))
 
-pub returns-in-Ok-clause-ordered : goal.returns-in-Ok-clause-ordered
-returns-in-Ok-clause-ordered g c = invariant_of-self g c
+pub returns-clause-ordered : goal.returns-clause-ordered
+returns-clause-ordered g c = (invariant_of-self-2 g c).0.ordered
