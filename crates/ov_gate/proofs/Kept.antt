@@ -24,7 +24,7 @@ use Rattle.ov_gate.specs.declared.small.SmallSet.{SmallSet}
 use Rattle.ov_gate.specs.declared.tracked.Mark.{Mark}
 use Rattle.ov_gate.specs.declared.tracked.Tracked.{Tracked}
 use Rattle.ov_gate.proofs.Sets.{with_has, with_others}
-use Rattle.ov_gate.proofs.Counts.{any_same, all_same, weight_same, none_less, all_more, weight_more}
+use Rattle.ov_history.proofs.Counting.{any_same, all_same, weight_same, none_less, all_more, weight_more}
 
 -- ---- what a version lacks, from which nodes have acknowledged it
 
