@@ -17,8 +17,8 @@ ghost use Rattle.ov_history.specs.Letters.{letter as letter_at};
 ghost use Rattle.ov_history.specs.Sessions.{events_of};
 ghost use Rattle.ov_history.specs.May.{Setting, IsTime, MayDraw, StartsAs, MayStart, MayPublish, GateGuard, May};
 ghost use Rattle.ov_history.specs.Gives.{Begin, Take, Publish, Stop, act_of, time_at, ready};
-ghost use Rattle.ov_history.specs.Cores.{letter_for, Steps};
-ghost use Rattle.ov_gate.specs.Gate.{IsGate, IsSound, is_begun, is_taken, is_published, is_heard, is_replied, is_told};
+ghost use Rattle.ov_history.specs.Cores.{letter_for, IsSound, Steps};
+ghost use Rattle.ov_gate.specs.Gate.{IsGate, is_begun, is_taken, is_published, is_heard, is_replied, is_told};
 ghost use Rattle.ov_gate.specs.Calls.{command_at, own_kept, Replies, IsGossip, IsWord};
 ghost use Rattle.ov_gate.specs.Tracker.{Rises};
 
@@ -107,8 +107,9 @@ impl GateCore {
     }
 
     /// Takes an `Ack` letter, with its `Acked` entry. None exactly where no such entry may follow: the gateway has stopped, or the
-    /// letter is not an `Ack` to it. After None nothing has changed. The letter stands at the place in the history, and the version's
-    /// time is not after the gateway's last, as of every `Ack` of a lawful history. Takes no memory, and one search.
+    /// letter is not an `Ack` to it. After None nothing has changed. The letter stands at the place in the history, and it is sound: its
+    /// version has a time that is not after the gateway's last, as in every lawful history (`sound_letters` of `ov_laws`). Takes no
+    /// memory, and one search.
     pub fn acked(&mut self, place: Place, letter: &Letter) -> Option<Entry>
         ensures steps { (t : Setting) (h : History) (actor : actors.Actor) → IsGate t h actor self.old → letter_at t.topology h place ≡ Some letter.now → IsSound t h self.old.gate letter.now → Steps IsGate is_taken t h actor (Take place) result self.new }
         ensures none { result ≡ None → self.new ≡ self.old }
@@ -204,8 +205,8 @@ impl GateCore {
     }
 
     /// Takes a `Told` letter, with its `Told` entry. None exactly where no such entry may follow: the gateway has stopped, or the
-    /// letter is not a `Told` of another gateway. After None nothing has changed. The letter stands at the place in the history, and
-    /// names a session of the roster, as every `Told` of a lawful history. Takes no memory.
+    /// letter is not a `Told` of another gateway. After None nothing has changed. The letter stands at the place in the history, and it
+    /// is sound: it names a session of the roster, as in every lawful history (`sound_letters` of `ov_laws`). Takes no memory.
     pub fn told(&mut self, place: Place, letter: &Letter) -> Option<Entry>
         ensures steps { (t : Setting) (h : History) (actor : actors.Actor) → IsGate t h actor self.old → letter_at t.topology h place ≡ Some letter.now → IsSound t h self.old.gate letter.now → Steps IsGate is_told t h actor (Take place) result self.new }
         ensures none { result ≡ None → self.new ≡ self.old }
