@@ -1,16 +1,14 @@
 -- What may follow is given by its actor, for the act to which it belongs.
-use Rattle.std.proofs.Common.{◌≡◌, ℕ, ◌+◌, ◌≤◌, ◌<◌, ◌^◌, min, max, Bool, true, inl, inr, ◌⊎◌, Some, List, [], ◌∷◌, length, refl, sym, ap, subst, ◌∙◌, arith, zero, suc}
+use Rattle.std.proofs.Common.{◌≡◌, ℕ, ◌+◌, ◌≤◌, ◌<◌, ◌^◌, min, max, Bool, true, inl, inr, ◌⊎◌, Some, List, [], ◌∷◌, refl, sym, ap, subst, arith, zero, suc}
 use Rattle.std.specs.List.{AllByRecursion, list_all}
 use Rattle.std.proofs.lemmas.Bool.{lt-ltb, le-leb, eq-eqb}
 use Rattle.std.proofs.lemmas.Bool.Decides.{eqb_tells}
-use Rattle.std.proofs.lemmas.List.{same_lists, get_or_default}
 use Rattle.ov_base.specs.Version.{number, time_of, gate_of}
 use Rattle.ov_functor.specs.declared.command.Command.{Command}
 use Rattle.ov_functor.specs.declared.command.Command.TheVariants as commands
 use Rattle.ov_functor.specs.declared.item.Item.{Item}
 use Rattle.ov_functor.specs.declared.item.Valued.{Valued}
 use Rattle.ov_functor.specs.declared.reply.Reply.{Reply}
-use Rattle.ov_gossip.specs.Marks.{mark_at, no_marks}
 use Rattle.ov_gossip.specs.declared.marks.Marks.{Marks}
 use Rattle.ov_topology.specs.Shape.{Shape, gates}
 use Rattle.ov_topology.specs.declared.actor.Actor.{Actor}
