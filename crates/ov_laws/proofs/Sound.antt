@@ -3,7 +3,7 @@ use Rattle.std.proofs.Common.{◌≡◌, ℕ, ◌≤◌, ◌<◌, Some, List, le
 use Rattle.std.proofs.lemmas.Option.{slice_get_within}
 use Rattle.ov_base.specs.Version.{time_of, gate_of}
 use Rattle.ov_functor.specs.declared.item.Item.{Item}
-use Rattle.ov_topology.specs.declared.actor.Actor.TheVariants.{Gate, Node}
+use Rattle.ov_topology.specs.declared.actor.Actor.TheVariants.{Node}
 use Rattle.ov_topology.specs.declared.place.Place.{Place}
 use Rattle.ov_event.specs.declared.entry.Entry.{Entry}
 use Rattle.ov_event.specs.declared.letter.Letter.{Letter}
