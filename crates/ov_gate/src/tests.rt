@@ -1,0 +1,168 @@
+//! What gateway 0 answers, call by call: draws and acknowledgements, a reply, and letters that are repeated, late or for others.
+mod samples;
+
+use crate::GateCore;
+use ov_base::same;
+use ov_event::{Entry, Kind, Letter, Start};
+use ov_gossip::Marks;
+use ov_session::Roster;
+use ov_topology::Actor;
+use samples::{
+    HERE, NOTHING, ack, core, done, gossip, marks, one_session, put_x, result, three_centres, told,
+    two_gateways, vector, version,
+};
+use std::alloc::Global;
+use std::test::Fail;
+
+/// Whether the answer is the entry of gateway 0 that says this.
+fn says(answer: Option<Entry>, kind: Kind) -> bool {
+    match answer {
+        Some(entry) => same(
+            &entry,
+            &Entry {
+                actor: Actor::Gate(0),
+                kind,
+            },
+        ),
+        None => false,
+    }
+}
+
+/// What beginning a command of session 0 at a reading of the clock answers.
+fn begin(core: &mut GateCore, roster: &Roster, clock: u64) -> Result<Option<Entry>, Fail> {
+    if roster.fits() {
+        return Ok(core.begin(roster, 0, clock)?);
+    }
+    Err("a roster that fits".into())
+}
+
+/// Whether it then begins the command of this number, with the version of this time.
+fn begins(
+    alloc: Global,
+    core: &mut GateCore,
+    roster: &Roster,
+    clock: u64,
+    seq: u32,
+    time: u64,
+) -> Result<bool, Fail> {
+    let start = Start::Draw {
+        version: version(time, 0)?,
+        transaction: put_x(alloc)?,
+    };
+    let kind = Kind::Began {
+        session: 0,
+        seq,
+        start,
+    };
+    Ok(says(begin(core, roster, clock)?, kind))
+}
+
+/// Whether it takes the acknowledgement of the version of this time by node n0.0.
+fn takes_ack(core: &mut GateCore, time: u64) -> Result<bool, Fail> {
+    let kind = Kind::Acked {
+        place: HERE,
+        version: version(time, 0)?,
+        centre: 0,
+        part: 0,
+    };
+    Ok(says(core.acked(HERE, &ack(time, 0)?), kind))
+}
+
+/// Whether it publishes, at a reading of the clock, this time and these marks by gateway.
+fn publishes(core: &mut GateCore, clock: u64, time: u64, all: &[Marks]) -> Result<bool, Fail> {
+    let kind = Kind::Published {
+        time,
+        vector: vector(all)?,
+    };
+    Ok(says(core.publish(clock), kind))
+}
+
+/// Whether it hears the marks of gateway 1, all at its version of this time.
+fn hears(core: &mut GateCore, time: u64) -> Result<bool, Fail> {
+    let kind = Kind::Heard {
+        place: HERE,
+        vector: vector(&[NOTHING, marks(time, time, time, 1)?])?,
+    };
+    Ok(says(core.heard(HERE, &gossip(1, time)?), kind))
+}
+
+/// Whether it gives the reply to command 1, done at the version of time 100.
+fn replies(alloc: Global, core: &mut GateCore) -> Result<bool, Fail> {
+    let kind = Kind::Replied {
+        place: HERE,
+        session: 0,
+        seq: 1,
+        reply: done(alloc, 100)?,
+    };
+    Ok(says(core.replied(HERE, &result(alloc, 0, 1)?)?, kind))
+}
+
+/// Whether it notes that command 1 is replied elsewhere.
+fn notes(core: &mut GateCore) -> bool {
+    let kind = Kind::Told {
+        place: HERE,
+        session: 0,
+        seq: 1,
+    };
+    says(core.told(HERE, &told(1)), kind)
+}
+
+/// Whether no call takes the letter.
+fn leaves(core: &mut GateCore, letter: &Letter) -> Result<bool, Fail> {
+    let one = core.acked(HERE, letter).is_none() && core.heard(HERE, letter).is_none();
+    let other = core.told(HERE, letter).is_none() && core.replied(HERE, letter)?.is_none();
+    Ok(one && other)
+}
+
+#[test]
+fn a_command_is_drawn_acknowledged_published_replied_once(rt: HostRuntime) -> Result<(), Fail> {
+    let roster = one_session(rt.alloc())?;
+    let mut core = core(rt.alloc(), &two_gateways(rt.alloc())?, &roster)?;
+    assert!(rt; begins(rt.alloc(), &mut core, &roster, 100, 1, 100)?);
+    assert!(rt; takes_ack(&mut core, 100)?);
+    assert!(rt; publishes(&mut core, 101, 101, &[marks(101, 101, 100, 0)?, NOTHING])?);
+    assert!(rt; begin(&mut core, &roster, 0)?.is_none());
+    assert!(rt; replies(rt.alloc(), &mut core)?);
+    assert!(rt; leaves(&mut core, &result(rt.alloc(), 0, 1)?)?);
+    assert!(rt; begins(rt.alloc(), &mut core, &roster, 0, 2, 101)?);
+    Ok(())
+}
+
+#[test]
+fn an_acknowledgement_taken_twice_counts_once(rt: HostRuntime) -> Result<(), Fail> {
+    let roster = one_session(rt.alloc())?;
+    let mut core = core(rt.alloc(), &three_centres(rt.alloc())?, &roster)?;
+    assert!(rt; begins(rt.alloc(), &mut core, &roster, 10, 1, 10)?);
+    assert!(rt; takes_ack(&mut core, 10)?);
+    assert!(rt; takes_ack(&mut core, 10)?);
+    assert!(rt; publishes(&mut core, 0, 11, &[marks(10, 10, 10, 0)?])?);
+    Ok(())
+}
+
+/// Letters that are not for gateway 0: an acknowledgement and a result to gateway 1, what it told and published itself, and a result
+/// to a command that has not begun.
+fn leaves_others(alloc: Global, core: &mut GateCore) -> Result<bool, Fail> {
+    let own = leaves(core, &told(0))? && leaves(core, &gossip(0, 60)?)?;
+    let results = leaves(core, &result(alloc, 1, 1)?)? && leaves(core, &result(alloc, 0, 2)?)?;
+    Ok(own && results && leaves(core, &ack(60, 1)?)?)
+}
+
+#[test]
+fn repeated_late_and_misaddressed_letters_change_no_mark(rt: HostRuntime) -> Result<(), Fail> {
+    let roster = one_session(rt.alloc())?;
+    let mut core = core(rt.alloc(), &two_gateways(rt.alloc())?, &roster)?;
+    assert!(rt; hears(&mut core, 50)?);
+    assert!(rt; hears(&mut core, 50)?);
+    assert!(rt; hears(&mut core, 9)?);
+    assert!(rt; notes(&mut core) && notes(&mut core));
+    assert!(rt; leaves_others(rt.alloc(), &mut core)?);
+    assert!(rt;
+        publishes(
+            &mut core,
+            0,
+            50,
+            &[marks(50, 50, 50, 0)?, marks(50, 50, 50, 1)?]
+        )?
+    );
+    Ok(())
+}
