@@ -1,12 +1,11 @@
 -- What a core tests of an entry, and when it may follow.
-use Rattle.std.proofs.Common.{◌≡◌, ◌≢◌, ℕ, ◌+◌, ◌<◌, max, Bool, true, false, IsTrue, ◌↔◌, ◌==◌, ◌&&◌, Option, Some, None, List, length, refl, sym, ap, subst, ◌∙◌, arith, inl, inr}
+use Rattle.std.proofs.Common.{◌≡◌, ◌≢◌, ℕ, ◌+◌, ◌<◌, max, Bool, true, IsTrue, ◌↔◌, ◌==◌, ◌&&◌, Option, Some, List, length, refl, sym, subst, ◌∙◌, inl, inr}
 use Rattle.std.specs.Prelude.{if◌then◌else◌, slice_get}
 use Rattle.std.proofs.lemmas.Bool.{eq-eqb, eqb-true, and_parts}
 use Rattle.std.proofs.lemmas.Bool.Decides.{eqb_tells}
 use Rattle.ov_functor.specs.declared.reply.Reply.{Reply}
-use Rattle.ov_gossip.specs.Marks.{mark_at}
 use Rattle.ov_gossip.specs.declared.marks.Marks.{Marks}
-use Rattle.ov_topology.specs.Shape.{Shape, gates}
+use Rattle.ov_topology.specs.Shape.{gates}
 use Rattle.ov_topology.specs.declared.actor.Actor.{Actor}
 use Rattle.ov_topology.specs.declared.actor.Actor.TheVariants.{Gate}
 use Rattle.ov_topology.specs.declared.place.Place.{Place}

@@ -1,32 +1,30 @@
 -- A gateway that publishes its marks.
-use Rattle.std.proofs.Common.{◌≡◌, ◌≢◌, ℕ, ◌+◌, ◌-◌, ◌<◌, ◌≤◌, ◌^◌, min, max, zero, suc, Bool, true, false, not, ◌==◌, ◌||◌, Option, Some, None, List, [], ◌∷◌, ◌++◌, length, get_or, refl, sym, ap, subst, ◌∙◌, arith, inl, inr, ◌⊎◌}
-use Rattle.std.specs.Prelude.{if◌then◌else◌, nat_lt}
-use Rattle.std.proofs.lemmas.Bool.{eq-eqb, le-ltb, lt-ltb}
+use Rattle.std.proofs.Common.{◌≡◌, ℕ, ◌+◌, ◌-◌, ◌<◌, ◌≤◌, ◌^◌, max, zero, suc, false, ◌==◌, Some, None, List, [], ◌∷◌, length, refl, sym, ap, ◌∙◌, arith, inl, inr}
+use Rattle.std.specs.Prelude.{if◌then◌else◌}
+use Rattle.std.proofs.lemmas.Bool.{le-ltb, lt-ltb}
 use Rattle.std.proofs.lemmas.Bool.Decides.{eqb_tells}
-use Rattle.std.proofs.lemmas.Grind.{common_steps}
-use Rattle.std.proofs.lemmas.List.{same_lists, get_or_default}
 use Rattle.ov_base.specs.Version.{number, time_of}
-use Rattle.ov_gossip.specs.Marks.{no_marks, mark_at, greater, greatest, low_time, low_of}
+use Rattle.ov_gossip.specs.Marks.{mark_at, greater, greatest, low_time, low_of}
 use Rattle.ov_gossip.specs.declared.marks.Marks.{Marks}
 use Rattle.ov_gossip.proofs.Leasts.{greatest_above}
-use Rattle.ov_topology.specs.Shape.{Shape, gates}
+use Rattle.ov_topology.specs.Shape.{gates}
 use Rattle.ov_topology.specs.declared.actor.Actor.{Actor}
 use Rattle.ov_topology.specs.declared.actor.Actor.TheVariants.{Gate}
 use Rattle.ov_event.specs.declared.kind.Kind.TheVariants.{Published}
 use Rattle.ov_history.specs.Past.{History}
 use Rattle.ov_history.specs.Draws.{last}
 use Rattle.ov_history.specs.Marks.{mark, marks, top_time, own_marks, lacks_quorum, lacks_copies, lacks_reply}
-use Rattle.ov_history.specs.Gives.{Publish, timed, time_at, vector_to, gives}
+use Rattle.ov_history.specs.Gives.{Publish, time_at, vector_to, gives}
 use Rattle.ov_history.specs.May.{Setting}
 use Rattle.ov_history.specs.Cores.{kept, Steps}
 use Rattle.ov_history.proofs.Given.{vector_made}
 use Rattle.ov_gate.specs.Calls.{own_kept}
-use Rattle.ov_gate.specs.Gate.{GateState, draws, IsGate, is_published}
+use Rattle.ov_gate.specs.Gate.{GateState, IsGate, is_published}
 use Rattle.ov_gate.specs.Tracker.{Rises}
 use Rattle.ov_gate.specs.declared.tracked.Mark.TheVariants.{Low, Full, Done}
 use Rattle.ov_gate.proofs.Kept.{lowest_kept}
 use Rattle.ov_gate.proofs.Changes.{by_gate, published_leaves}
-use Rattle.ov_gate.proofs.Stands.{Goes, some_steps, none_steps}
+use Rattle.ov_gate.proofs.Stands.{some_steps, none_steps}
 use Rattle.ov_gate.proofs.Calls.{tracked_on, greater_swap}
 
 -- ---- the greatest time of a low mark

@@ -1,5 +1,5 @@
 -- What a gateway core is, which histories it stands for, and which entries its calls make.
-use Rattle.std.specs.Prelude.{◌≡◌, ℕ, ◌+◌, ◌<◌, ◌≤◌, ◌^◌, Bool, true, false, List, [], ◌∷◌, ◌++◌, length, get_or, slice_get, Option, Some, None}
+use Rattle.std.specs.Prelude.{◌≡◌, ℕ, ◌<◌, ◌≤◌, ◌^◌, Bool, true, false, List, [], ◌∷◌, ◌++◌, length, get_or, slice_get, Option, Some, None}
 use Rattle.ov_base.specs.Version.{time_of}
 use Rattle.ov_gossip.specs.Marks.{mark_at}
 use Rattle.ov_gossip.specs.declared.marks.Marks.{Marks}

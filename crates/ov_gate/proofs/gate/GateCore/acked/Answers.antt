@@ -1,4 +1,4 @@
-use Rattle.std.proofs.Common.{◌≡◌, refl, sym, ◌∙◌}
+use Rattle.std.proofs.Common.{sym, ◌∙◌}
 use Rattle.ov_gate.proofs.Calls.{acked_steps}
 use Rattle.ov_gate.proofs.gate.GateCore.acked.Goals as goal
 
