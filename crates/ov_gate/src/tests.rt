@@ -8,8 +8,8 @@ use ov_gossip::Marks;
 use ov_session::Roster;
 use ov_topology::Actor;
 use samples::{
-    HERE, NOTHING, ack, core, done, gossip, marks, one_session, put_x, result, three_centres, told,
-    two_gateways, vector, version,
+    HERE, NOTHING, ack, core, done, draw, gossip, look, marks, one_session, result, three_centres,
+    told, two_gateways, vector, version,
 };
 use std::alloc::Global;
 use std::test::Fail;
@@ -36,19 +36,14 @@ fn begin(core: &mut GateCore, roster: &Roster, clock: u64) -> Result<Option<Entr
     Err("a roster that fits".into())
 }
 
-/// Whether it then begins the command of this number, with the version of this time.
+/// Whether it then begins the command of this number so.
 fn begins(
-    alloc: Global,
     core: &mut GateCore,
     roster: &Roster,
     clock: u64,
     seq: u32,
-    time: u64,
+    start: Start,
 ) -> Result<bool, Fail> {
-    let start = Start::Draw {
-        version: version(time, 0)?,
-        transaction: put_x(alloc)?,
-    };
     let kind = Kind::Began {
         session: 0,
         seq,
@@ -57,15 +52,28 @@ fn begins(
     Ok(says(begin(core, roster, clock)?, kind))
 }
 
-/// Whether it takes the acknowledgement of the version of this time by node n0.0.
-fn takes_ack(core: &mut GateCore, time: u64) -> Result<bool, Fail> {
-    let kind = Kind::Acked {
+/// What it says where it takes the acknowledgement of the version of this time by node n0.0.
+fn acked(time: u64) -> Result<Kind, Fail> {
+    Ok(Kind::Acked {
         place: HERE,
         version: version(time, 0)?,
         centre: 0,
         part: 0,
+    })
+}
+
+/// Whether it takes that acknowledgement.
+fn takes_ack(core: &mut GateCore, time: u64) -> Result<bool, Fail> {
+    Ok(says(core.acked(HERE, &ack(time, 0)?), acked(time)?))
+}
+
+/// Whether it admits that entry by the acknowledgement of the version of another time.
+fn admits_ack(core: &GateCore, roster: &Roster, time: u64, sent: u64) -> Result<bool, Fail> {
+    let entry = Entry {
+        actor: Actor::Gate(0),
+        kind: acked(time)?,
     };
-    Ok(says(core.acked(HERE, &ack(time, 0)?), kind))
+    Ok(roster.fits() && core.admits(roster, Some(&ack(sent, 0)?), &entry))
 }
 
 /// Whether it publishes, at a reading of the clock, this time and these marks by gateway.
@@ -86,15 +94,20 @@ fn hears(core: &mut GateCore, time: u64) -> Result<bool, Fail> {
     Ok(says(core.heard(HERE, &gossip(1, time)?), kind))
 }
 
-/// Whether it gives the reply to command 1, done at the version of time 100.
-fn replies(alloc: Global, core: &mut GateCore) -> Result<bool, Fail> {
+/// Whether it gives the reply to the command, done at the version of this time.
+fn replies(alloc: Global, core: &mut GateCore, seq: u32, time: u64) -> Result<bool, Fail> {
     let kind = Kind::Replied {
         place: HERE,
         session: 0,
-        seq: 1,
-        reply: done(alloc, 100)?,
+        seq,
+        reply: done(alloc, time)?,
     };
-    Ok(says(core.replied(HERE, &result(alloc, 0, 1)?)?, kind))
+    Ok(says(core.replied(HERE, &result(alloc, 0, seq, time)?)?, kind))
+}
+
+/// Whether it gives the reply to command 2, done at the version of time 101, and then begins the snapshot just above.
+fn replies_and_looks(alloc: Global, core: &mut GateCore, roster: &Roster) -> Result<bool, Fail> {
+    Ok(replies(alloc, core, 2, 101)? && begins(core, roster, 0, 3, look(alloc, 101)?)?)
 }
 
 /// Whether it notes that command 1 is replied elsewhere.
@@ -118,13 +131,14 @@ fn leaves(core: &mut GateCore, letter: &Letter) -> Result<bool, Fail> {
 fn a_command_is_drawn_acknowledged_published_replied_once(rt: HostRuntime) -> Result<(), Fail> {
     let roster = one_session(rt.alloc())?;
     let mut core = core(rt.alloc(), &two_gateways(rt.alloc())?, &roster)?;
-    assert!(rt; begins(rt.alloc(), &mut core, &roster, 100, 1, 100)?);
+    assert!(rt; begins(&mut core, &roster, 100, 1, draw(rt.alloc(), 100)?)?);
     assert!(rt; takes_ack(&mut core, 100)?);
     assert!(rt; publishes(&mut core, 101, 101, &[marks(101, 101, 100, 0)?, NOTHING])?);
     assert!(rt; begin(&mut core, &roster, 0)?.is_none());
-    assert!(rt; replies(rt.alloc(), &mut core)?);
-    assert!(rt; leaves(&mut core, &result(rt.alloc(), 0, 1)?)?);
-    assert!(rt; begins(rt.alloc(), &mut core, &roster, 0, 2, 101)?);
+    assert!(rt; replies(rt.alloc(), &mut core, 1, 100)?);
+    assert!(rt; leaves(&mut core, &result(rt.alloc(), 0, 1, 100)?)?);
+    assert!(rt; begins(&mut core, &roster, 0, 2, draw(rt.alloc(), 101)?)?);
+    assert!(rt; replies_and_looks(rt.alloc(), &mut core, &roster)?);
     Ok(())
 }
 
@@ -132,8 +146,9 @@ fn a_command_is_drawn_acknowledged_published_replied_once(rt: HostRuntime) -> Re
 fn an_acknowledgement_taken_twice_counts_once(rt: HostRuntime) -> Result<(), Fail> {
     let roster = one_session(rt.alloc())?;
     let mut core = core(rt.alloc(), &three_centres(rt.alloc())?, &roster)?;
-    assert!(rt; begins(rt.alloc(), &mut core, &roster, 10, 1, 10)?);
+    assert!(rt; begins(&mut core, &roster, 10, 1, draw(rt.alloc(), 10)?)?);
     assert!(rt; takes_ack(&mut core, 10)?);
+    assert!(rt; admits_ack(&core, &roster, 10, 10)? && !admits_ack(&core, &roster, 10, 11)?);
     assert!(rt; takes_ack(&mut core, 10)?);
     assert!(rt; publishes(&mut core, 0, 11, &[marks(10, 10, 10, 0)?])?);
     Ok(())
@@ -143,7 +158,8 @@ fn an_acknowledgement_taken_twice_counts_once(rt: HostRuntime) -> Result<(), Fai
 /// to a command that has not begun.
 fn leaves_others(alloc: Global, core: &mut GateCore) -> Result<bool, Fail> {
     let own = leaves(core, &told(0))? && leaves(core, &gossip(0, 60)?)?;
-    let results = leaves(core, &result(alloc, 1, 1)?)? && leaves(core, &result(alloc, 0, 2)?)?;
+    let results = leaves(core, &result(alloc, 1, 1, 60)?)?
+        && leaves(core, &result(alloc, 0, 2, 60)?)?;
     Ok(own && results && leaves(core, &ack(60, 1)?)?)
 }
 

@@ -1,7 +1,7 @@
 //! Topologies, a roster and letters.
 use crate::GateCore;
 use ov_base::{Amount, Key, Sequence, Version};
-use ov_event::Letter;
+use ov_event::{Letter, Start};
 use ov_functor::{Command, Part, Reply, Transaction};
 use ov_gossip::{Marks, Vector};
 use ov_session::{Planned, Roster, SessionName, SessionPlan};
@@ -45,25 +45,48 @@ pub(super) fn version(time: u64, gate: u32) -> Result<Version, Fail> {
 }
 
 /// The transaction `put x 7`.
-pub(super) fn put_x(alloc: Global) -> Result<Transaction, Fail> {
+fn put_x(alloc: Global) -> Result<Transaction, Fail> {
     let key = Key::from_bytes(b"x").ok_or("a key")?;
     let amount = Amount::new(7).ok_or("an amount")?;
     let parts = Vec::from_slice(alloc, &[Part::Put { key, amount }])?;
     Ok(Transaction::new(parts).ok().ok_or("a transaction")?)
 }
 
-fn planned(alloc: Global) -> Result<Planned, Fail> {
-    Ok(Planned {
-        command: Command::Transact(put_x(alloc)?),
-        after: Sequence::new(alloc),
+/// The key `x` alone.
+fn keys(alloc: Global) -> Result<Sequence<Key>, Fail> {
+    let key = Key::from_bytes(b"x").ok_or("a key")?;
+    Ok(Sequence::from_vec(Vec::from_slice(alloc, &[key])?))
+}
+
+/// How `put x 7` starts, with the version of this time.
+pub(super) fn draw(alloc: Global, time: u64) -> Result<Start, Fail> {
+    Ok(Start::Draw {
+        version: version(time, 0)?,
+        transaction: put_x(alloc)?,
     })
 }
 
-/// One session, of gateway 0, which puts twice.
+/// How `snap x` starts after a reply that was done at the version of this time.
+pub(super) fn look(alloc: Global, time: u64) -> Result<Start, Fail> {
+    Ok(Start::Look {
+        floor: version(time, 0)?.number() + 1,
+        keys: keys(alloc)?,
+    })
+}
+
+fn planned(alloc: Global, command: Command) -> Planned {
+    Planned {
+        command,
+        after: Sequence::new(alloc),
+    }
+}
+
+/// One session, of gateway 0, which puts twice and then looks.
 pub(super) fn one_session(alloc: Global) -> Result<Roster, Fail> {
     let mut commands = Sequence::new(alloc);
-    commands.push(planned(alloc)?)?;
-    commands.push(planned(alloc)?)?;
+    commands.push(planned(alloc, Command::Transact(put_x(alloc)?)))?;
+    commands.push(planned(alloc, Command::Transact(put_x(alloc)?)))?;
+    commands.push(planned(alloc, Command::Snap(keys(alloc)?)))?;
     let mut sessions = Sequence::new(alloc);
     sessions.push(SessionPlan {
         name: SessionName::from_bytes(b"a").ok_or("a name")?,
@@ -115,13 +138,13 @@ pub(super) fn done(alloc: Global, time: u64) -> Result<Reply, Fail> {
     })
 }
 
-/// The result for a command of session 0, to a gateway.
-pub(super) fn result(alloc: Global, gate: u32, seq: u32) -> Result<Letter, Fail> {
+/// The result for a command of session 0, to a gateway, done at the version of this time.
+pub(super) fn result(alloc: Global, gate: u32, seq: u32, time: u64) -> Result<Letter, Fail> {
     Ok(Letter::Result {
         session: 0,
         seq,
         gate,
-        reply: done(alloc, 100)?,
+        reply: done(alloc, time)?,
     })
 }
 
