@@ -1,5 +1,5 @@
 -- An item that is read is written so, and what is written is read again.
-use Rattle.std.proofs.Common.{◌≡◌, ℕ, ℤ, ◌==◌, Bool, true, false, ◌&&◌, IsTrue, ◌↔◌, List, [], ◌∷◌, ◌++◌, map, length, Option, Some, None, Result, Ok, Err, refl, sym, ap, subst, ◌∙◌, codes, append_assoc, inl, inr}
+use Rattle.std.proofs.Common.{◌≡◌, ℕ, ℤ, Bool, true, ◌&&◌, IsTrue, ◌↔◌, List, [], ◌∷◌, ◌++◌, map, length, Option, Some, None, Result, Ok, refl, sym, ap, subst, ◌∙◌, codes, append_assoc, inl, inr}
 use Rattle.std.specs.List.{flat_map, AllByRecursion}
 use Rattle.std.specs.Str.{bytes_eq}
 use Rattle.std.proofs.lemmas.Bool.{cases_Bool, eqb-true, and_parts}
@@ -29,7 +29,7 @@ use Rattle.ov_functor.specs.declared.effect.Effect.TheVariants.{Put, Del, Add, L
 use Rattle.ov_functor.specs.declared.functor.FunctorError.{FunctorError}
 use Rattle.ov_functor.specs.declared.item.Item.{Item}
 use Rattle.ov_functor.specs.declared.part.Move.{Move}
-use Rattle.ov_event.specs.ItemWords.{effect_words, move_words, item_words, effect_text, move_text, fields_text, item_text, items_text, IsEffect, IsMove, HasFields, IsItem, amount_effect, amount_effect_of, effect_of, move_between, move_of, moves_of, item_with, functor_item_of, item_of, is_blank, items_behind, items_of}
+use Rattle.ov_event.specs.ItemWords.{effect_words, move_words, item_words, move_text, fields_text, items_text, IsEffect, IsMove, HasFields, IsItem, amount_effect, amount_effect_of, effect_of, move_between, move_of, moves_of, item_with, functor_item_of, item_of, is_blank, items_behind, items_of}
 
 -- ---- effects
 

@@ -1,5 +1,5 @@
 -- Items as words: which items have a text, their words, and how a text is read. In a text each item stands behind ` ; `.
-use Rattle.std.specs.Prelude.{◌≡◌, ◌==◌, ℕ, ℤ, Bool, true, false, length, List, [], ◌∷◌, ◌++◌, map, codes, Option, Some, None, Result, Ok, Err, if◌then◌else◌}
+use Rattle.std.specs.Prelude.{◌≡◌, ◌==◌, ℕ, ℤ, Bool, true, false, length, List, [], ◌∷◌, ◌++◌, codes, Option, Some, None, Result, if◌then◌else◌}
 use Rattle.std.specs.List.{All, flat_map, AllByRecursion}
 use Rattle.std.specs.Result.{result_ok}
 use Rattle.std.specs.Str.{bytes_eq}

@@ -1,12 +1,11 @@
 -- What a core tests of an entry, and when it may follow.
-use Rattle.std.proofs.Common.{◌≡◌, ◌≢◌, ℕ, ◌+◌, ◌<◌, max, Bool, true, false, IsTrue, ◌↔◌, ◌==◌, ◌&&◌, Option, Some, None, List, length, refl, sym, ap, subst, ◌∙◌, arith, inl, inr}
+use Rattle.std.proofs.Common.{◌≡◌, ◌≢◌, ℕ, ◌+◌, ◌<◌, max, Bool, true, IsTrue, ◌↔◌, ◌==◌, ◌&&◌, Option, Some, List, length, refl, sym, subst, ◌∙◌, inl, inr}
 use Rattle.std.specs.Prelude.{if◌then◌else◌, slice_get}
 use Rattle.std.proofs.lemmas.Bool.{eq-eqb, eqb-true, and_parts}
 use Rattle.std.proofs.lemmas.Bool.Decides.{eqb_tells}
 use Rattle.ov_functor.specs.declared.reply.Reply.{Reply}
-use Rattle.ov_gossip.specs.Marks.{mark_at}
 use Rattle.ov_gossip.specs.declared.marks.Marks.{Marks}
-use Rattle.ov_topology.specs.Shape.{Shape, gates}
+use Rattle.ov_topology.specs.Shape.{gates}
 use Rattle.ov_topology.specs.declared.actor.Actor.{Actor}
 use Rattle.ov_topology.specs.declared.actor.Actor.TheVariants.{Gate}
 use Rattle.ov_topology.specs.declared.place.Place.{Place}
@@ -25,11 +24,11 @@ use Rattle.ov_history.specs.Sessions.{events_of}
 use Rattle.ov_history.specs.Gives.{ready, vector_to, is_own, is_open}
 use Rattle.ov_history.specs.May.{Setting, IsTime, StartsAs, MayStart, MayPublish, MayReply}
 use Rattle.ov_history.proofs.Given.{vector_length, vector_at, owned, gate_known}
-use Rattle.ov_history.proofs.Giving.{may_ready}
+use Rattle.ov_history.proofs.Giving.{may_ready, vector_back}
 use Rattle.ov_gate.specs.Gate.{GateState, IsGate}
 use Rattle.ov_gate.proofs.Begins.{ready_for}
 use Rattle.ov_gate.proofs.Calls.{open_is, is_open_back}
-use Rattle.ov_gate.proofs.Publishes.{IsMade, vector_made, vector_is}
+use Rattle.ov_gate.proofs.Publishes.{IsMade, vector_is}
 
 -- the test of the start says whether the command that may begin may begin so
 pub start_iff : (t : Setting) (roster : Roster) (h : History) (g s c : ℕ) (start : Start) (b : Bool) → t.roster ≡ roster → (m : MayBegin roster g (events_of g h) s c)
@@ -57,7 +56,7 @@ publish_iff t h actor gate time vector made b is at width makes known test = (
     others = λ k less other. vector_at t.topology gate.gate time h (gates t.topology) k less ∙ apart k other;
     own = vector_at t.topology gate.gate time h (gates t.topology) gate.gate known ∙ (rw (eq-eqb gate.gate gate.gate refl) refl);
   }),
-  λ may. test.1 (vector_made t.topology gate.gate time h vector may.width (λ k less. each may k less) ∙ sym given),
+  λ may. test.1 (sym (vector_back t.topology h gate.gate time vector may) ∙ sym given),
 )
   where
     given : made ≡ vector_to t.topology gate.gate time h (gates t.topology)
@@ -65,12 +64,6 @@ publish_iff t h actor gate time vector made b is at width makes known test = (
 
     apart : (k : ℕ) → k ≢ gate.gate → (if k == gate.gate then own_marks t.topology gate.gate time h else marks (Gate gate.gate) k h) ≡ marks (Gate gate.gate) k h
     apart k other = elim (eqb_tells k gate.gate) [ inl same ↦ absurd (other same.1) | inr differs ↦ rw differs.0 refl ]
-
-    each : MayPublish t.topology h gate.gate time vector → (k : ℕ) → k < gates t.topology → mark_at vector k ≡ (if k == gate.gate then own_marks t.topology gate.gate time h else marks (Gate gate.gate) k h)
-    each may k less = elim (eqb_tells k gate.gate) [
-      | inl same ↦ rw same.0 (ap (mark_at vector) same.1 ∙ may.own)
-      | inr differs ↦ rw differs.0 (may.others k less differs.1)
-    ]
 
 -- a reply may be given where the letter has it and the command is open
 pub reply_iff : (t : Setting) (h : History) (actor : Actor) (gate : GateState) (place : Place) (s c : ℕ) (reply : Reply) (o : Option Letter) (b : Bool) → IsGate t h actor gate → o ≡ letter t.topology h place

@@ -1,9 +1,8 @@
 -- A command that begins.
-use Rattle.std.proofs.Common.{◌≡◌, ◌≢◌, ℕ, ◌+◌, ◌-◌, ◌<◌, ◌≤◌, ◌^◌, min, max, Bool, true, false, not, ◌==◌, ◌||◌, Option, Some, None, List, [], ◌∷◌, ◌++◌, length, get_or, refl, sym, ap, subst, ◌∙◌, arith, inl, inr, ◌⊎◌, append-nil}
-use Rattle.std.specs.Prelude.{if◌then◌else◌, slice_get, slice_set, nat_lt}
-use Rattle.std.proofs.lemmas.Bool.{cases_Bool, eq-eqb, le-ltb, lt-ltb, false_from_ne_true}
+use Rattle.std.proofs.Common.{◌≡◌, ◌≢◌, ℕ, ◌+◌, ◌-◌, ◌<◌, ◌≤◌, ◌^◌, max, true, false, ◌==◌, Option, Some, None, List, [], ◌∷◌, ◌++◌, length, get_or, refl, sym, ap, subst, ◌∙◌, arith, inl, inr, ◌⊎◌, append-nil}
+use Rattle.std.specs.Prelude.{if◌then◌else◌, slice_get, slice_set}
+use Rattle.std.proofs.lemmas.Bool.{eq-eqb, le-ltb, lt-ltb, false_from_ne_true}
 use Rattle.std.proofs.lemmas.Bool.Decides.{eqb_tells}
-use Rattle.std.proofs.lemmas.Grind.{common_steps}
 use Rattle.std.proofs.lemmas.List.{get_or-set_same, get_or-set_other}
 use Rattle.std.proofs.lemmas.Option.{slice_get_within}
 use Rattle.std.proofs.Math.ListN.{set, length-set}
@@ -13,15 +12,12 @@ use Rattle.ov_functor.specs.declared.command.Command.{Command}
 use Rattle.ov_functor.specs.declared.command.Command.TheVariants as commands
 use Rattle.ov_functor.specs.declared.part.Part.{Part}
 use Rattle.ov_gossip.specs.Marks.{mark_at}
-use Rattle.ov_topology.specs.Shape.{Shape}
 use Rattle.ov_topology.specs.declared.actor.Actor.{Actor}
 use Rattle.ov_session.specs.Events.{Event, begun, replied, floor}
 use Rattle.ov_session.specs.Events as events
 use Rattle.ov_session.specs.Standing.{State, StandsFor, MayBegin}
 use Rattle.ov_session.specs.declared.planned.Planned.{Planned}
-use Rattle.ov_session.specs.declared.plan.SessionPlan.{SessionPlan}
 use Rattle.ov_session.specs.declared.roster.Roster.{Roster}
-use Rattle.ov_event.specs.declared.kind.Kind.{Kind}
 use Rattle.ov_event.specs.declared.kind.Kind.TheVariants.{Began}
 use Rattle.ov_event.specs.declared.start.Start.{Start}
 use Rattle.ov_event.specs.declared.start.Start.TheVariants.{Draw, Look}
@@ -29,18 +25,18 @@ use Rattle.ov_history.specs.Past.{History}
 use Rattle.ov_history.specs.Draws.{last}
 use Rattle.ov_history.specs.Placement.{acked}
 use Rattle.ov_history.specs.Sessions.{events_of}
-use Rattle.ov_history.specs.Gives.{Begin, timed, time_at, ready, start_of, gives, is_own}
+use Rattle.ov_history.specs.Gives.{Begin, time_at, ready, start_of, gives, is_own}
 use Rattle.ov_history.specs.May.{Setting}
 use Rattle.ov_history.specs.Cores.{kept, Steps}
 use Rattle.ov_history.proofs.Given.{ready_may}
 use Rattle.ov_history.proofs.Giving.{may_ready}
 use Rattle.ov_gate.specs.Calls.{command_at}
-use Rattle.ov_gate.specs.Gate.{GateState, draws, Tracks, TracksAll, IsGate, is_begun}
+use Rattle.ov_gate.specs.Gate.{GateState, draws, IsGate, is_begun}
 use Rattle.ov_gate.specs.Tracked.{IsNew}
 use Rattle.ov_gate.specs.declared.tracked.Tracked.{Tracked}
 use Rattle.ov_gate.proofs.Kept.{all_on, all_pushed, all_early, rises_pushed}
 use Rattle.ov_gate.proofs.Changes.{by_gate, tracks_begun, tracks_new}
-use Rattle.ov_gate.proofs.Stands.{nothing_more, last_more, Goes, some_steps, none_steps}
+use Rattle.ov_gate.proofs.Stands.{nothing_more, last_more, some_steps, none_steps}
 
 -- ---- what is given
 

@@ -1,12 +1,12 @@
 -- The calls of a core, each whole: what it returns is given, and the core then stands for the longer history.
 use Rattle.std.proofs.Common.{◌≡◌, ◌≢◌, ℕ, ◌+◌, ◌<◌, ◌≤◌, max, Bool, true, false, not, ◌&&◌, ◌==◌, ◌||◌, Option, Some, None, List, [], ◌∷◌, ◌++◌, length, map, get_or, refl, sym, ap, subst, ◌∙◌, arith, inl, inr, append-nil}
 use Rattle.std.specs.Prelude.{if◌then◌else◌, slice_get}
-use Rattle.std.proofs.lemmas.Bool.{cases_Bool, eq-eqb, eqb-true, and_parts, false_from_ne_true}
+use Rattle.std.proofs.lemmas.Bool.{eq-eqb, eqb-true, and_parts}
 use Rattle.std.proofs.lemmas.Option.{slice_get_within}
 use Rattle.std.proofs.lemmas.Bool.Decides.{eqb_tells}
 use Rattle.std.proofs.lemmas.Grind.{common_steps}
 use Rattle.ov_base.specs.Version.{time_of, gate_of}
-use Rattle.ov_gossip.specs.Marks.{mark_at, greater, no_marks}
+use Rattle.ov_gossip.specs.Marks.{mark_at, greater}
 use Rattle.ov_gossip.specs.declared.marks.Marks.{Marks}
 use Rattle.ov_topology.specs.Shape.{Shape}
 use Rattle.ov_topology.specs.declared.actor.Actor.{Actor}
@@ -15,24 +15,20 @@ use Rattle.ov_topology.specs.declared.place.Place.{Place}
 use Rattle.ov_functor.specs.declared.reply.Reply.{Reply}
 use Rattle.ov_session.specs.Events.{Event, begun, replied}
 use Rattle.ov_session.specs.Events as events
-use Rattle.ov_session.specs.Standing.{State, StandsFor, IsOpen, standing, standing_after}
-use Rattle.ov_session.specs.declared.plan.SessionPlan.{SessionPlan}
+use Rattle.ov_session.specs.Standing.{State, StandsFor, IsOpen}
 use Rattle.ov_session.specs.declared.roster.Roster.{Roster}
 use Rattle.ov_session.specs.declared.sessions.Standing as standings
-use Rattle.ov_event.specs.declared.kind.Kind.{Kind}
 use Rattle.ov_event.specs.declared.kind.Kind.TheVariants as kinds
 use Rattle.ov_event.specs.declared.letter.Letter.TheVariants as letters
 use Rattle.ov_history.specs.Past.{History, stops}
 use Rattle.ov_history.specs.Letters.{letter}
-use Rattle.ov_history.specs.Draws.{Drawn, draw_of, last}
+use Rattle.ov_history.specs.Draws.{last}
 use Rattle.ov_history.specs.Placement.{acks, acked}
 use Rattle.ov_history.specs.Sessions.{events_of}
-use Rattle.ov_event.specs.Letters.{is_for}
-use Rattle.ov_event.specs.declared.letter.Letter.{Letter}
-use Rattle.ov_history.specs.Gives.{Act, Take, Stop, gate_takes, gives, is_own, is_open}
+use Rattle.ov_history.specs.Gives.{Take, Stop, gate_takes, gives, is_own, is_open}
 use Rattle.ov_history.specs.May.{Setting}
 use Rattle.ov_history.specs.Cores.{kept, Steps}
-use Rattle.ov_gate.specs.Gate.{GateState, listed, draws, Tracks, TracksAll, IsGate, is_taken, is_heard, is_replied, is_told}
+use Rattle.ov_gate.specs.Gate.{GateState, draws, TracksAll, IsGate, is_taken, is_heard, is_replied, is_told}
 use Rattle.ov_gate.specs.Calls.{Replies, tracked_replied}
 use Rattle.ov_gate.specs.Tracked.{with_ack, with_reply}
 use Rattle.ov_gate.specs.Tracker.{Rises, at_version}
@@ -42,7 +38,7 @@ use Rattle.ov_history.proofs.Cores.{gives_taken, entry_of}
 use Rattle.ov_history.proofs.Given.{owned}
 use Rattle.ov_gate.proofs.Kept.{Leaves, tracks_on, all_on, all_changed, rises_changed}
 use Rattle.ov_gate.proofs.Changes.{by_gate, heard_leaves, told_leaves, stopped_leaves, tracks_acked, tracks_unreplied, tracks_replied}
-use Rattle.ov_gate.proofs.Stands.{nothing_more, Goes, some_steps, none_steps, letter_given}
+use Rattle.ov_gate.proofs.Stands.{nothing_more, some_steps, none_steps, letter_given}
 
 -- what is kept of the drawn versions over an entry that leaves them
 pub tracked_on : (t : Setting) (h more : History) (actor : Actor) (gate : GateState) → IsGate t h actor gate → Leaves gate.gate h more → TracksAll t.topology gate.gate more gate.latest (draws gate.gate h ++ []) gate.tracked

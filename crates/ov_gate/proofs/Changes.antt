@@ -1,7 +1,7 @@
 -- What is kept of drawn versions, after an acknowledgement, a reply, and a command that begins.
-use Rattle.std.proofs.Common.{◌≡◌, ◌≢◌, ℕ, ◌+◌, ◌*◌, ◌<◌, ◌≤◌, max, Bool, true, false, not, ◌==◌, ◌&&◌, ◌||◌, Option, Some, None, List, [], ◌∷◌, length, map, get_or, refl, sym, ap, ◌∙◌, arith, inl, inr, ◌⊎◌}
+use Rattle.std.proofs.Common.{◌≡◌, ◌≢◌, ℕ, ◌+◌, ◌<◌, ◌≤◌, max, Bool, true, false, not, ◌==◌, ◌&&◌, ◌||◌, Option, Some, None, List, [], ◌∷◌, get_or, refl, sym, ap, ◌∙◌, arith, inl, inr, ◌⊎◌}
 use Rattle.std.specs.Prelude.{if◌then◌else◌, nat_lt}
-use Rattle.std.proofs.lemmas.Bool.{cases_Bool, ltb-true, lt-ltb, eq-eqb, eqb-true, and_parts, both_ways, false_from_ne_true}
+use Rattle.std.proofs.lemmas.Bool.{ltb-true, lt-ltb, eq-eqb, eqb-true, and_parts, both_ways, false_from_ne_true}
 use Rattle.std.proofs.lemmas.Bool.Decides.{eqb_tells}
 use Rattle.std.proofs.lemmas.Grind.{common_steps}
 use Rattle.ov_base.specs.Version.{time_of}
@@ -12,25 +12,24 @@ use Rattle.ov_topology.specs.Shape.{Shape, IsShape}
 use Rattle.ov_topology.specs.declared.actor.Actor.TheVariants.{Gate}
 use Rattle.ov_topology.specs.declared.place.Place.{Place}
 use Rattle.ov_session.specs.Events.{begun, replied}
-use Rattle.ov_event.specs.Letters.{touches}
 use Rattle.ov_event.specs.declared.entry.Entry.{Entry}
 use Rattle.ov_event.specs.declared.kind.Kind.{Kind}
 use Rattle.ov_event.specs.declared.kind.Kind.TheVariants.{Began, Acked, Published, Heard, Replied, Told, Stopped}
 use Rattle.ov_event.specs.declared.start.Start.{Start}
-use Rattle.ov_event.specs.declared.start.Start.TheVariants.{Draw, Look}
+use Rattle.ov_event.specs.declared.start.Start.TheVariants.{Draw}
 use Rattle.ov_history.specs.Past.{History}
 use Rattle.ov_history.specs.Draws.{Drawn, last}
 use Rattle.ov_history.specs.Placement.{acked}
-use Rattle.ov_history.specs.Marks.{lacks_quorum, lacks_copies, lacks_reply, replied_to}
+use Rattle.ov_history.specs.Marks.{lacks_quorum, lacks_copies, replied_to}
 use Rattle.ov_history.specs.Sessions.{events_of}
-use Rattle.ov_gate.specs.Small.{empty_set, has, with_number}
-use Rattle.ov_gate.specs.Tracked.{node_number, is_acked, lacks_quorum_of, lacks_copies_of, recounted, with_ack, with_reply, IsNew}
+use Rattle.ov_gate.specs.Small.{with_number}
+use Rattle.ov_gate.specs.Tracked.{node_number, is_acked, recounted, with_ack, with_reply, IsNew}
 use Rattle.ov_gate.specs.Tracker.{at_version}
 use Rattle.ov_gate.specs.Gate.{Tracks}
 use Rattle.ov_gate.specs.declared.small.SmallSet.{SmallSet}
 use Rattle.ov_gate.specs.declared.tracked.Tracked.{Tracked}
 use Rattle.ov_gate.proofs.Sets.{empty_has, with_has, with_others}
-use Rattle.ov_gate.proofs.Kept.{quorum_found, copies_found, quorum_same, copies_same, quorum_stays, copies_stay, Leaves, tracks_on}
+use Rattle.ov_gate.proofs.Kept.{quorum_found, copies_found, quorum_same, copies_same, quorum_stays, copies_stay, Leaves}
 
 -- the gateway's entry of this kind
 abbrev pub by_gate : ℕ → Kind → Entry

@@ -1,6 +1,5 @@
 -- Whether a command begins, or marks are published, does not hang on the reading of the clock.
-use Rattle.std.proofs.Common.{◌≡◌, ℕ, ◌+◌, ◌<◌, ◌≤◌, ◌^◌, min, max, true, false, Option, Some, None, List, refl, sym, ap, ◌∙◌, arith}
-use Rattle.std.specs.Prelude.{nat_lt}
+use Rattle.std.proofs.Common.{◌≡◌, ℕ, ◌+◌, ◌<◌, ◌^◌, min, max, Some, None, List, refl, arith}
 use Rattle.std.proofs.lemmas.Bool.{lt-ltb}
 use Rattle.ov_base.specs.Version.{number, time_of}
 use Rattle.ov_functor.specs.declared.command.Command.{Command}
@@ -17,8 +16,8 @@ use Rattle.ov_history.specs.Past.{History}
 use Rattle.ov_history.specs.Draws.{last}
 use Rattle.ov_history.specs.Marks.{top_time}
 use Rattle.ov_history.specs.Sessions.{events_of}
-use Rattle.ov_history.specs.Gives.{Begin, Publish, clock_end, timed, time_at, ready, start_of, begins, publishes, gives, vector_to}
-use Rattle.ov_history.specs.May.{Setting, IsTime, StartsAs, MayStart, MayPublish, May}
+use Rattle.ov_history.specs.Gives.{Begin, Publish, clock_end, timed, time_at, start_of}
+use Rattle.ov_history.specs.May.{Setting, IsTime, StartsAs, May}
 use Rattle.ov_history.specs.Cores.{Steps}
 use Rattle.ov_history.proofs.Giving.{may_ready}
 use Rattle.ov_gate.specs.Gate.{GateState, IsGate, is_begun, is_published}

@@ -1,30 +1,26 @@
 -- What is kept of a drawn version, after one more entry.
-use Rattle.std.proofs.Common.{◌≡◌, ◌≢◌, ℕ, ◌+◌, ◌*◌, ◌<◌, ◌≤◌, min, max, Bool, true, false, not, ◌==◌, ◌&&◌, ◌||◌, Option, Some, None, List, [], ◌∷◌, ◌++◌, length, map, get_or, refl, sym, ap, ◌∙◌, arith, inl, inr, append-nil}
+use Rattle.std.proofs.Common.{◌≡◌, ℕ, ◌<◌, ◌≤◌, min, Bool, true, false, not, ◌&&◌, Option, Some, None, List, [], ◌∷◌, ◌++◌, map, refl, sym, ap, ◌∙◌, arith, append-nil}
 use Rattle.std.specs.Prelude.{if◌then◌else◌, nat_lt}
 use Rattle.std.specs.List.{AllByRecursion}
-use Rattle.std.proofs.lemmas.Bool.{cases_Bool, ltb-true, lt-ltb, le-ltb, ltb-false, eq-eqb}
-use Rattle.std.proofs.lemmas.Bool.Decides.{eqb_tells}
-use Rattle.std.proofs.lemmas.Grind.{common_steps}
+use Rattle.std.proofs.lemmas.Bool.{le-ltb, ltb-false}
 use Rattle.ov_base.specs.Version.{time_of}
-use Rattle.ov_topology.specs.Shape.{Shape, IsShape}
+use Rattle.ov_topology.specs.Shape.{Shape}
 use Rattle.ov_session.specs.Events.{begun}
-use Rattle.ov_event.specs.Letters.{touches, is_gate}
-use Rattle.ov_event.specs.declared.entry.Entry.{Entry}
+use Rattle.ov_event.specs.Letters.{touches}
 use Rattle.ov_history.specs.Past.{History}
-use Rattle.ov_history.specs.Counts.{any_below, all_below, weight}
+use Rattle.ov_history.specs.Counts.{all_below}
 use Rattle.ov_history.specs.Draws.{Drawn, draw_of, last}
 use Rattle.ov_history.specs.Placement.{acked, ackers}
-use Rattle.ov_history.specs.Marks.{lacks_quorum, lacks_copies, lacks_reply, replied_to, lowered, lowest}
+use Rattle.ov_history.specs.Marks.{lacks_quorum, lacks_copies, replied_to, lowered, lowest}
 use Rattle.ov_history.specs.Sessions.{events_of}
-use Rattle.ov_gate.specs.Small.{has, with_number}
-use Rattle.ov_gate.specs.Tracked.{node_number, is_acked, few_acks, some_copy_lacks, lacks_quorum_of, lacks_copies_of, recounted, with_ack, with_reply, lacks, IsNew}
-use Rattle.ov_gate.specs.Tracker.{Rises, at_version, least_held}
+use Rattle.ov_gate.specs.Small.{has}
+use Rattle.ov_gate.specs.Tracked.{is_acked, few_acks, some_copy_lacks, lacks_quorum_of, lacks_copies_of, lacks}
+use Rattle.ov_gate.specs.Tracker.{Rises, least_held}
 use Rattle.ov_gate.specs.Gate.{listed, draws, Tracks, TracksAll}
 use Rattle.ov_gate.specs.declared.small.SmallSet.{SmallSet}
 use Rattle.ov_gate.specs.declared.tracked.Mark.{Mark}
 use Rattle.ov_gate.specs.declared.tracked.Tracked.{Tracked}
-use Rattle.ov_gate.proofs.Sets.{with_has, with_others}
-use Rattle.ov_gate.proofs.Counts.{any_same, all_same, weight_same, none_less, all_more, weight_more}
+use Rattle.ov_history.proofs.Counting.{any_same, all_same, weight_same, none_less, all_more, weight_more}
 
 -- ---- what a version lacks, from which nodes have acknowledged it
 

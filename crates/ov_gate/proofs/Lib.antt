@@ -1,6 +1,5 @@
 pub mod Sets
 pub mod Rising
-pub mod Counts
 pub mod Kept
 pub mod Changes
 pub mod Stands

@@ -1,19 +1,15 @@
 -- An entry of another actor leaves a core standing.
-use Rattle.std.proofs.Common.{◌≡◌, ℕ, false, ◌∷◌, ◌++◌, length, refl, sym, ap, subst, ◌∙◌, arith, append-nil}
-use Rattle.std.specs.Prelude.{slice_get}
+use Rattle.std.proofs.Common.{◌≡◌, ℕ, false, ◌∷◌, sym, ap, ◌∙◌, arith, append-nil}
 use Rattle.ov_topology.specs.declared.actor.Actor.{Actor}
 use Rattle.ov_topology.specs.declared.actor.Actor.TheVariants.{Gate}
 use Rattle.ov_session.specs.Events.{begun}
-use Rattle.ov_session.specs.Standing.{StandsFor}
 use Rattle.ov_event.specs.Letters.{is_gate}
 use Rattle.ov_event.specs.declared.entry.Entry.{Entry}
 use Rattle.ov_history.specs.Past.{History, same_actor}
-use Rattle.ov_history.specs.Sessions.{events_of}
-use Rattle.ov_history.specs.Gives.{is_own}
 use Rattle.ov_history.specs.May.{Setting}
 use Rattle.ov_history.proofs.Cores.{runs_on}
 use Rattle.ov_history.proofs.Stays.{last-stays, marks-stay, events-stay, acked-stays, replied_to-stays}
-use Rattle.ov_gate.specs.Gate.{GateState, draws, TracksAll, IsGate}
+use Rattle.ov_gate.specs.Gate.{GateState, draws, IsGate}
 use Rattle.ov_gate.proofs.Kept.{Leaves, tracks_on, all_on}
 
 -- what a gateway drew stays

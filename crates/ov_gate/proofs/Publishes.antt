@@ -1,39 +1,33 @@
 -- A gateway that publishes its marks.
-use Rattle.std.proofs.Common.{◌≡◌, ◌≢◌, ℕ, ◌+◌, ◌-◌, ◌<◌, ◌≤◌, ◌^◌, min, max, zero, suc, Bool, true, false, not, ◌==◌, ◌||◌, Option, Some, None, List, [], ◌∷◌, ◌++◌, length, get_or, refl, sym, ap, subst, ◌∙◌, arith, inl, inr, ◌⊎◌}
-use Rattle.std.specs.Prelude.{if◌then◌else◌, nat_lt}
-use Rattle.std.proofs.lemmas.Bool.{eq-eqb, le-ltb, lt-ltb}
+use Rattle.std.proofs.Common.{◌≡◌, ℕ, ◌+◌, ◌-◌, ◌<◌, ◌≤◌, ◌^◌, max, zero, suc, false, ◌==◌, Some, None, List, [], ◌∷◌, length, refl, sym, ap, ◌∙◌, arith, inl, inr}
+use Rattle.std.specs.Prelude.{if◌then◌else◌}
+use Rattle.std.proofs.lemmas.Bool.{le-ltb, lt-ltb}
 use Rattle.std.proofs.lemmas.Bool.Decides.{eqb_tells}
-use Rattle.std.proofs.lemmas.Grind.{common_steps}
-use Rattle.std.proofs.lemmas.List.{same_lists, get_or_default}
 use Rattle.ov_base.specs.Version.{number, time_of}
-use Rattle.ov_gossip.specs.Marks.{no_marks, mark_at, greater, greatest, low_time, low_of}
+use Rattle.ov_gossip.specs.Marks.{mark_at, greater, greatest, low_time, low_of}
 use Rattle.ov_gossip.specs.declared.marks.Marks.{Marks}
-use Rattle.ov_topology.specs.Shape.{Shape, gates}
+use Rattle.ov_gossip.proofs.Leasts.{greatest_above}
+use Rattle.ov_topology.specs.Shape.{gates}
 use Rattle.ov_topology.specs.declared.actor.Actor.{Actor}
 use Rattle.ov_topology.specs.declared.actor.Actor.TheVariants.{Gate}
 use Rattle.ov_event.specs.declared.kind.Kind.TheVariants.{Published}
 use Rattle.ov_history.specs.Past.{History}
 use Rattle.ov_history.specs.Draws.{last}
 use Rattle.ov_history.specs.Marks.{mark, marks, top_time, own_marks, lacks_quorum, lacks_copies, lacks_reply}
-use Rattle.ov_history.specs.Gives.{Publish, timed, time_at, vector_to, gives}
+use Rattle.ov_history.specs.Gives.{Publish, time_at, vector_to, gives}
 use Rattle.ov_history.specs.May.{Setting}
 use Rattle.ov_history.specs.Cores.{kept, Steps}
-use Rattle.ov_history.proofs.Given.{vector_length, vector_at}
+use Rattle.ov_history.proofs.Given.{vector_made}
 use Rattle.ov_gate.specs.Calls.{own_kept}
-use Rattle.ov_gate.specs.Gate.{GateState, draws, IsGate, is_published}
+use Rattle.ov_gate.specs.Gate.{GateState, IsGate, is_published}
 use Rattle.ov_gate.specs.Tracker.{Rises}
 use Rattle.ov_gate.specs.declared.tracked.Mark.TheVariants.{Low, Full, Done}
 use Rattle.ov_gate.proofs.Kept.{lowest_kept}
 use Rattle.ov_gate.proofs.Changes.{by_gate, published_leaves}
-use Rattle.ov_gate.proofs.Stands.{Goes, some_steps, none_steps}
+use Rattle.ov_gate.proofs.Stands.{some_steps, none_steps}
 use Rattle.ov_gate.proofs.Calls.{tracked_on, greater_swap}
 
 -- ---- the greatest time of a low mark
-
-greatest_above : (f : Marks → ℕ) (xs : List Marks) (k : ℕ) → k < length xs → f (mark_at xs k) ≤ greatest f xs
-greatest_above f [] k less = absurd (omega (arith, less))
-greatest_above f (x ∷ xs) zero less = omega arith
-greatest_above f (x ∷ xs) (suc k) less = let rest = greatest_above f xs k (omega (arith, less)) in omega (arith, rest)
 
 greatest_under : (f : Marks → ℕ) (xs : List Marks) (b : ℕ) → ((k : ℕ) → k < length xs → f (mark_at xs k) ≤ b) → greatest f xs ≤ b
 greatest_under f [] b each = omega arith
@@ -70,16 +64,6 @@ own_is t h actor gate time is =
     let full = lowest_kept t.topology gate.gate h gate.latest Full (lacks_copies t.topology gate.gate h) (number time gate.gate) (λ drawn one tracks. tracks.copies_is) gate.tracked is.tracked_are in
     let done = lowest_kept t.topology gate.gate h gate.latest Done (lacks_reply gate.gate h) (number time gate.gate) (λ drawn one tracks. tracks.reply_is) gate.tracked is.tracked_are in
     rw (low, full, done) refl
-
--- a vector with the marks at each place is the one that the gateway publishes
-pub vector_made : (t : Shape) (g time : ℕ) (h : History) (vector : List Marks) → length vector ≡ gates t
-    → ((k : ℕ) → k < gates t → mark_at vector k ≡ (if k == g then own_marks t g time h else marks (Gate g) k h)) → vector ≡ vector_to t g time h (gates t)
-vector_made t g time h vector width each =
-    let long : length (vector_to t g time h (gates t)) ≡ gates t = vector_length t g time h (gates t) in
-    same_lists vector (vector_to t g time h (gates t)) (width ∙ sym long) λ k d less.
-    let inside : k < gates t = omega (arith, less, width) in
-    let here : k < length (vector_to t g time h (gates t)) = omega (arith, inside, long) in
-    get_or_default vector k d no_marks less ∙ (each k inside ∙ sym (vector_at t g time h (gates t) k inside)) ∙ get_or_default (vector_to t g time h (gates t)) k no_marks d here
 
 -- What the core makes of its marks for a time.
 abbrev pub IsMade : GateState → ℕ → List Marks → Type 0

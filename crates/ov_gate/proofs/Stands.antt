@@ -1,32 +1,28 @@
 -- The histories that a core stands for, after one more entry of its gateway.
-use Rattle.std.proofs.Common.{◌≡◌, ◌≢◌, ℕ, ◌+◌, ◌<◌, ◌≤◌, min, max, Bool, true, false, not, ◌==◌, ◌&&◌, ◌||◌, Option, Some, None, List, [], ◌∷◌, ◌++◌, length, map, get_or, refl, sym, ap, subst, ◌∙◌, arith, inl, inr, append-nil}
-use Rattle.std.specs.Prelude.{if◌then◌else◌, slice_get}
-use Rattle.std.proofs.lemmas.Bool.{cases_Bool, eq-eqb}
-use Rattle.std.proofs.lemmas.Grind.{common_steps}
+use Rattle.std.proofs.Common.{◌≡◌, ℕ, ◌<◌, ◌≤◌, max, Bool, true, false, ◌||◌, Some, None, ◌∷◌, ◌++◌, length, refl, sym, ap, subst, ◌∙◌, arith}
+use Rattle.std.specs.Prelude.{slice_get}
+use Rattle.std.proofs.lemmas.Bool.{eq-eqb}
 use Rattle.ov_base.specs.Version.{time_of}
 use Rattle.ov_gossip.specs.Marks.{mark_at, greater, no_marks, low_of, full_of, done_of}
 use Rattle.ov_gossip.specs.declared.marks.Marks.{Marks}
-use Rattle.ov_topology.specs.Shape.{Shape, gates}
 use Rattle.ov_topology.specs.declared.actor.Actor.{Actor}
 use Rattle.ov_topology.specs.declared.actor.Actor.TheVariants.{Gate}
 use Rattle.ov_topology.specs.declared.place.Place.{Place}
-use Rattle.ov_session.specs.Events.{Event, begun}
-use Rattle.ov_session.specs.Standing.{State, StandsFor}
-use Rattle.ov_session.specs.declared.roster.Roster.{Roster}
+use Rattle.ov_session.specs.Events.{begun}
+use Rattle.ov_session.specs.Standing.{StandsFor}
 use Rattle.ov_event.specs.Letters.{is_for}
-use Rattle.ov_event.specs.declared.entry.Entry.{Entry}
 use Rattle.ov_event.specs.declared.kind.Kind.{Kind}
 use Rattle.ov_event.specs.declared.letter.Letter.{Letter}
-use Rattle.ov_history.specs.Past.{History, stops, stopped, same_actor}
+use Rattle.ov_history.specs.Past.{History, stops}
 use Rattle.ov_history.specs.Letters.{letter}
-use Rattle.ov_history.specs.Draws.{Drawn, drawn_in, draw_of, time_in, last}
+use Rattle.ov_history.specs.Draws.{drawn_in, time_in, last}
 use Rattle.ov_history.specs.Placement.{acks, acked}
 use Rattle.ov_history.specs.Marks.{mark_in, mark, marks}
 use Rattle.ov_history.specs.Sessions.{events_in, events_of}
 use Rattle.ov_history.specs.Gives.{Act, Take, gate_takes, gives, is_own}
 use Rattle.ov_history.specs.May.{Setting}
 use Rattle.ov_history.specs.Cores.{kept, Runs, Steps}
-use Rattle.ov_history.proofs.Cores.{steps, gives_taken, entry_of, taken}
+use Rattle.ov_history.proofs.Cores.{steps, gives_taken}
 use Rattle.ov_gate.specs.Gate.{GateState, listed, draws, TracksAll, IsGate}
 use Rattle.ov_gate.specs.Tracker.{Rises}
 use Rattle.ov_gate.proofs.Changes.{by_gate}

@@ -1,5 +1,5 @@
 -- What a gateway core is, which histories it stands for, and which entries its calls make.
-use Rattle.std.specs.Prelude.{◌≡◌, ℕ, ◌+◌, ◌<◌, ◌≤◌, ◌^◌, Bool, true, false, List, [], ◌∷◌, ◌++◌, length, get_or, slice_get, Option, Some, None}
+use Rattle.std.specs.Prelude.{◌≡◌, ℕ, ◌<◌, ◌≤◌, ◌^◌, Bool, true, false, List, [], ◌∷◌, ◌++◌, length, get_or, slice_get, Option, Some, None}
 use Rattle.ov_base.specs.Version.{time_of}
 use Rattle.ov_gossip.specs.Marks.{mark_at}
 use Rattle.ov_gossip.specs.declared.marks.Marks.{Marks}
@@ -11,8 +11,6 @@ use Rattle.ov_session.specs.Standing.{State, StandsFor}
 use Rattle.ov_event.specs.Letters.{touches}
 use Rattle.ov_event.specs.declared.kind.Kind.{Kind}
 use Rattle.ov_event.specs.declared.kind.Kind.TheVariants as kinds
-use Rattle.ov_event.specs.declared.letter.Letter.{Letter}
-use Rattle.ov_event.specs.declared.letter.Letter.TheVariants as letters
 use Rattle.ov_history.specs.Past.{History}
 use Rattle.ov_history.specs.Draws.{Drawn, draw_of, last}
 use Rattle.ov_history.specs.Placement.{acked}
@@ -94,13 +92,6 @@ pub record IsGate (t : Setting) (h : History) (actor : Actor) (gate : GateState)
   pub tracked_rise : Rises gate.tracked
   pub own : (s : ℕ) → 0 < begun s (events_of gate.gate h) → is_own gate.gate (slice_get t.roster.sessions s) ≡ true
   pub acked_early : (v c p : ℕ) → acked gate.gate v c p h ≡ true → time_of v ≤ last gate.gate h
-
--- What the letters of a lawful history say besides: an acknowledged version has a time that is not after the last of its gateway,
--- which drew it, and a session of which is told is one of the roster.
-abbrev pub IsSound : Setting → History → ℕ → Letter → Type 0
-IsSound t h g (letters.Ack version centre part) = time_of version ≤ last g h
-IsSound t h g (letters.Told session seq sender) = session < length t.roster.sessions
-IsSound t h g other = Unit {0}
 
 -- ---- the kinds of entries that the calls make
 

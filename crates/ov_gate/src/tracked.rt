@@ -1,15 +1,15 @@
 //! One version that the gateway has drawn, and what it still lacks.
 ghost use Rattle.std.specs.Prelude.{◌≡◌, ◌<◌, ◌+◌, ◌*◌, ◌≤◌, ◌&&◌, not, nat_lt, ℕ, false, true};
-ghost use Rattle.std.specs.List.{list_any};
 ghost use Rattle.ov_functor.specs.declared.part.Part as parts;
 ghost use Rattle.ov_topology.specs.Shape.{IsShape};
-ghost use Rattle.ov_event.specs.Letters.{is_kept, part_touches, touches};
+ghost use Rattle.ov_event.specs.Letters.{touches};
 ghost use Rattle.ov_history.specs.Counts.{any_below, all_below, weight};
 ghost use Rattle.ov_gate.specs.Small.{has, empty_set};
 ghost use Rattle.ov_gate.specs.Tracked.{is_acked, few_acks, some_copy_lacks, lacks_quorum_of, lacks_copies_of, recounted, with_ack, with_reply, lacks, IsNew};
 
 use crate::small::SmallSet;
-use ov_base::{Key, Version};
+use ov_base::Version;
+use ov_event::touches;
 use ov_functor::Part;
 use ov_topology::Topology;
 
@@ -158,31 +158,4 @@ fn touched(topology: &Topology, parts: &[Part]) -> SmallSet
         }
     }
     touched
-}
-
-/// Whether a part of the transaction writes a key of the partition.
-fn touches(topology: &Topology, parts: &[Part], part: u32) -> bool
-    ensures { result ≡ touches topology.now parts.now part }
-{
-    parts.iter().any(|one| part_touches(topology, part, one))
-}
-
-fn part_touches(topology: &Topology, part: u32, one: &Part) -> bool
-    ensures { result ≡ part_touches topology.now part one.now }
-{
-    match one {
-        Part::Put { key, .. } => is_kept(topology, part, key),
-        Part::Del { key } => is_kept(topology, part, key),
-        Part::Add { key, .. } => is_kept(topology, part, key),
-        Part::Least { key, .. } => is_kept(topology, part, key),
-        Part::Greatest { key, .. } => is_kept(topology, part, key),
-        Part::Move { from, to, .. } => is_kept(topology, part, from) || is_kept(topology, part, to),
-        Part::Get { .. } => false,
-    }
-}
-
-fn is_kept(topology: &Topology, part: u32, key: &Key) -> bool
-    ensures { result ≡ is_kept topology.now part key.now }
-{
-    topology.place(*key) == part
 }

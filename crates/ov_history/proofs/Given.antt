@@ -6,7 +6,7 @@ use Rattle.std.specs.Option.{option_map}
 use Rattle.std.proofs.lemmas.Bool.{leb-true, ltb-true, eqb-true, and_parts, not-true}
 use Rattle.std.proofs.lemmas.Bool.Decides.{eqb_tells}
 use Rattle.std.proofs.lemmas.Grind.{common_steps}
-use Rattle.std.proofs.lemmas.List.{get_or_push, get_or_append_left}
+use Rattle.std.proofs.lemmas.List.{get_or_push, get_or_append_left, get_or_default, same_lists}
 use Rattle.ov_base.specs.Lemmas.{time_back, gate_back}
 use Rattle.ov_base.specs.Version.{number}
 use Rattle.ov_base.proofs.Readers.{bind_some, chosen}
@@ -16,6 +16,7 @@ use Rattle.ov_functor.specs.declared.command.Command.TheVariants as commands
 use Rattle.ov_functor.specs.declared.reply.Reply.{Reply}
 use Rattle.ov_functor.specs.declared.reply.Reply.TheVariants.{Snap}
 use Rattle.ov_gossip.specs.Marks.{mark_at, no_marks}
+use Rattle.ov_gossip.specs.declared.marks.Marks.{Marks}
 use Rattle.ov_topology.specs.Shape.{Shape, IsShape, gates}
 use Rattle.ov_topology.specs.declared.actor.Actor.{Actor}
 use Rattle.ov_topology.specs.declared.actor.Actor.TheVariants.{Gate, Node, Settler}
@@ -148,6 +149,16 @@ vector_at t g time h (suc n) k less =
       | inl same ↦ rw same.1 (get_or_push (vector_to t g time h n) (if n == g then own_marks t g time h else marks (Gate g) n h) no_marks n long)
       | inr other ↦ get_or_append_left (vector_to t g time h n) _ no_marks k (omega (arith, less, other.1, long)) ∙ vector_at t g time h n k (omega (arith, less, other.1))
     ]
+
+-- a vector with the marks at each place is the one that the gateway publishes
+pub vector_made : (t : Shape) (g time : ℕ) (h : History) (vector : List Marks) → length vector ≡ gates t
+    → ((k : ℕ) → k < gates t → mark_at vector k ≡ (if k == g then own_marks t g time h else marks (Gate g) k h)) → vector ≡ vector_to t g time h (gates t)
+vector_made t g time h vector width each =
+    let long : length (vector_to t g time h (gates t)) ≡ gates t = vector_length t g time h (gates t) in
+    same_lists vector (vector_to t g time h (gates t)) (width ∙ sym long) λ k d less.
+    let inside : k < gates t = omega (arith, less, width) in
+    let here : k < length (vector_to t g time h (gates t)) = omega (arith, inside, long) in
+    get_or_default vector k d no_marks less ∙ (each k inside ∙ sym (vector_at t g time h (gates t) k inside)) ∙ get_or_default (vector_to t g time h (gates t)) k no_marks d here
 
 -- the marks of another gateway at its place
 vector_other : (t : Shape) (g time : ℕ) (h : History) (n k : ℕ) → k < n → k ≢ g → mark_at (vector_to t g time h n) k ≡ marks (Gate g) k h

@@ -1,16 +1,14 @@
 -- What may follow is given by its actor, for the act to which it belongs.
-use Rattle.std.proofs.Common.{◌≡◌, ℕ, ◌+◌, ◌≤◌, ◌<◌, ◌^◌, min, max, Bool, true, inl, inr, ◌⊎◌, Some, List, [], ◌∷◌, length, refl, sym, ap, subst, ◌∙◌, arith, zero, suc}
+use Rattle.std.proofs.Common.{◌≡◌, ℕ, ◌+◌, ◌≤◌, ◌<◌, ◌^◌, min, max, Bool, true, inl, inr, ◌⊎◌, Some, List, [], ◌∷◌, refl, sym, ap, subst, arith, zero, suc}
 use Rattle.std.specs.List.{AllByRecursion, list_all}
 use Rattle.std.proofs.lemmas.Bool.{lt-ltb, le-leb, eq-eqb}
 use Rattle.std.proofs.lemmas.Bool.Decides.{eqb_tells}
-use Rattle.std.proofs.lemmas.List.{same_lists, get_or_default}
 use Rattle.ov_base.specs.Version.{number, time_of, gate_of}
 use Rattle.ov_functor.specs.declared.command.Command.{Command}
 use Rattle.ov_functor.specs.declared.command.Command.TheVariants as commands
 use Rattle.ov_functor.specs.declared.item.Item.{Item}
 use Rattle.ov_functor.specs.declared.item.Valued.{Valued}
 use Rattle.ov_functor.specs.declared.reply.Reply.{Reply}
-use Rattle.ov_gossip.specs.Marks.{mark_at, no_marks}
 use Rattle.ov_gossip.specs.declared.marks.Marks.{Marks}
 use Rattle.ov_topology.specs.Shape.{Shape, gates}
 use Rattle.ov_topology.specs.declared.actor.Actor.{Actor}
@@ -37,7 +35,7 @@ use Rattle.ov_history.specs.Sessions.{events_of}
 use Rattle.ov_history.specs.Settlers.{Round, open_round, rounds, settled, took, IsEnough, known_below, Shows}
 use Rattle.ov_history.specs.May.{Setting, IsTime, StartsAs, MayStart, MayPublish, MayReply, upper, MayAsk, MayTake, MaySettle, Guard, May}
 use Rattle.ov_history.specs.Gives.{clock_end, timed, time_at, is_known, ready, start_of, begins, vector_to, publishes, is_open, asks, is_enough, settles, is_current, reply_to, takes_as, takes, acts, gives, clock_of, act_of}
-use Rattle.ov_history.proofs.Given.{vector_length, vector_at}
+use Rattle.ov_history.proofs.Given.{vector_made}
 
 -- ---- clocks
 
@@ -86,21 +84,12 @@ may_begins t h g s c start may =
 
 -- ---- what gateways publish
 
--- the marks at a place of a vector that may be published are those that the gateway gives
-vector_same : (t : Shape) (h : History) (g time : ℕ) (vector : List Marks) → MayPublish t h g time vector → (k : ℕ) → k < gates t → mark_at (vector_to t g time h (gates t)) k ≡ mark_at vector k
-vector_same t h g time vector may k less = vector_at t g time h (gates t) k less ∙ elim (eqb_tells k g) [
-  | inl same ↦ rw same.1 (rw (eq-eqb g g refl) (sym may.own))
-  | inr other ↦ rw other.0 (sym (may.others k less other.1))
-]
-
 -- a vector that may be published is the one that the gateway gives
-vector_back : (t : Shape) (h : History) (g time : ℕ) (vector : List Marks) → MayPublish t h g time vector → vector_to t g time h (gates t) ≡ vector
-vector_back t h g time vector may =
-    let long : length (vector_to t g time h (gates t)) ≡ gates t = vector_length t g time h (gates t) in
-    same_lists (vector_to t g time h (gates t)) vector (long ∙ sym may.width) λ k d less.
-    let inside : k < gates t = omega (arith, less, long) in
-    let here : k < length vector = omega (arith, inside, may.width) in
-    get_or_default (vector_to t g time h (gates t)) k d no_marks less ∙ vector_same t h g time vector may k inside ∙ get_or_default vector k no_marks d here
+pub vector_back : (t : Shape) (h : History) (g time : ℕ) (vector : List Marks) → MayPublish t h g time vector → vector_to t g time h (gates t) ≡ vector
+vector_back t h g time vector may = sym (vector_made t g time h vector may.width λ k less. elim (eqb_tells k g) [
+  | inl same ↦ rw (same.1, eq-eqb g g refl) may.own
+  | inr other ↦ rw other.0 (may.others k less other.1)
+])
 
 -- what a gateway may publish it publishes
 pub may_publishes : (t : Shape) (h : History) (g time : ℕ) (vector : List Marks) → MayPublish t h g time vector → publishes t h g time ≡ Some (kinds.Published time vector)

@@ -1,4 +1,5 @@
 pub mod Past
+pub mod Counting
 pub mod Stays
 pub mod Given
 pub mod Giving

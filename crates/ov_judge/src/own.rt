@@ -1,7 +1,6 @@
 //! The marks that a gateway publishes of its own versions.
 ghost use Rattle.std.specs.Prelude.{◌≡◌, ℕ, ◌<◌, ◌^◌, ◌&&◌, not, false, nat_lt, if◌then◌else◌, IfOk};
-ghost use Rattle.std.specs.List.{list_any};
-ghost use Rattle.ov_event.specs.Letters.{is_kept, part_touches, touches, is_gate};
+ghost use Rattle.ov_event.specs.Letters.{touches, is_gate};
 ghost use Rattle.ov_history.specs.Counts.{any_below, all_below};
 ghost use Rattle.ov_history.specs.Draws.{draw_of, drawn_in, drawn_by};
 ghost use Rattle.ov_history.specs.Marks.{lacks_quorum, lacks_copies, lacks_reply, replies, replied_to, lowered, lowest, own_marks};
@@ -9,9 +8,9 @@ ghost use Rattle.ov_history.specs.Placement.{acked, ackers};
 
 use crate::past::is_gate;
 use crate::placement::{acked, ackers};
-use ov_base::{Key, Memory, Version};
-use ov_event::{Entry, Kind, Start};
-use ov_functor::{Part, Transaction};
+use ov_base::{Memory, Version};
+use ov_event::{Entry, Kind, Start, touches};
+use ov_functor::Transaction;
 use ov_gossip::Marks;
 use ov_topology::Topology;
 use std::alloc::Global;
@@ -291,31 +290,4 @@ fn replies(session: u32, seq: u32, kind: &Kind) -> bool
         } => *other == session && *number == seq,
         _ => false,
     }
-}
-
-/// Whether a part of the transaction writes a key of the partition.
-fn touches(topology: &Topology, parts: &[Part], part: u32) -> bool
-    ensures { result ≡ touches topology.now parts.now part }
-{
-    parts.iter().any(|one| part_touches(topology, part, one))
-}
-
-fn part_touches(topology: &Topology, part: u32, one: &Part) -> bool
-    ensures { result ≡ part_touches topology.now part one.now }
-{
-    match one {
-        Part::Put { key, .. } => is_kept(topology, part, key),
-        Part::Del { key } => is_kept(topology, part, key),
-        Part::Add { key, .. } => is_kept(topology, part, key),
-        Part::Least { key, .. } => is_kept(topology, part, key),
-        Part::Greatest { key, .. } => is_kept(topology, part, key),
-        Part::Move { from, to, .. } => is_kept(topology, part, from) || is_kept(topology, part, to),
-        Part::Get { .. } => false,
-    }
-}
-
-fn is_kept(topology: &Topology, part: u32, key: &Key) -> bool
-    ensures { result ≡ is_kept topology.now part key.now }
-{
-    topology.place(*key) == part
 }

@@ -1,5 +1,4 @@
--- Histories of every kind: their earlier parts, what is gathered over them; and their letters.
+-- Histories of every kind: their earlier parts, what is gathered over them, and their letters.
 pub mod Earlier
 pub mod Gathered
-pub mod Counting
 pub mod Sent

@@ -4,3 +4,4 @@ pub mod Times
 pub mod Windows
 pub mod Values
 pub mod Sessions
+pub mod Sound

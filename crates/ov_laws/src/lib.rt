@@ -1,5 +1,6 @@
 //! The laws of lawful histories: which watermarks are final, what a settler gathers, what settled values and replies show, the
-//! order of sessions, and how far times go. No actor and no judge stands on this crate, so no edit here has them proved again.
+//! order of sessions, how far times go, and what gateways may rely on in letters. No actor and no judge stands on this crate, so no
+//! edit here has them proved again.
 //!
 //! The promise to the layers above: `right_replies`. In every lawful history each reply shows what executing all begun transactions
 //! one at a time in version order gives.
@@ -12,4 +13,5 @@ mod laws;
 pub use laws::{
     bounded_times, drawn_once, final_stays, final_watermark, growing_marks, harvest_list,
     harvest_window, order, right_replies, serial_fold_of_history, session_order, settled_values,
+    sound_letters,
 };

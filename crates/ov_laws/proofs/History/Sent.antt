@@ -157,3 +157,19 @@ want_sent t e number session seq gate start is = by e.actor e.kind (letter_is_la
     by (Node c p) (kinds.Answered place settler round items) last = absurd (cc)
     by (Node c p) (kinds.Stored place version items) last = absurd (cc)
     by a k last = absurd (cc)
+
+-- a reply is told on by the gateway that gave it
+pub told_sent : (t : Shape) (e : Entry) (number session seq sender : ℕ) → letter_in t e number ≡ Some (letters.Told session seq sender)
+    → (place : Place) × (reply : Reply) × (e ≡ record { actor = Gate sender; kind = kinds.Replied place session seq reply })
+told_sent t e number session seq sender is = by e.actor e.kind (letter_is_last t e number (letters.Told session seq sender) refl is)
+  where
+    by : (a : Actor) (k : Kind) → last_of a k ≡ Some (letters.Told session seq sender)
+        → (place : Place) × (reply : Reply) × (◌≡◌ {A = Entry} (record { actor = a; kind = k }) (record { actor = Gate sender; kind = kinds.Replied place session seq reply }))
+    by (Gate g) (kinds.Replied place other c reply) last = (place, reply, grind (arith, common_steps))
+    by (Gate g) (kinds.Published time list) last = absurd (cc)
+    by (Gate g) (kinds.Began other c start) last = absurd (cc)
+    by (Settler s) (kinds.Resulted place other c g shown) last = absurd (cc)
+    by (Settler s) (kinds.Asked round mode from below) last = absurd (cc)
+    by (Node c p) (kinds.Answered place settler round items) last = absurd (cc)
+    by (Node c p) (kinds.Stored place version items) last = absurd (cc)
+    by a k last = absurd (cc)

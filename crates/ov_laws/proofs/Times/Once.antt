@@ -32,7 +32,7 @@ draws_once t h g other drawn also lawful drew again same =
     (sym (drew_own t h g drawn lawful drew) ∙ (ap gate_of same ∙ drew_own t h other also lawful again), draws_equal t h g other drawn also lawful drew again same)
 
 -- what an entry of a lawful history draws, a gateway drew
-drew_at : (t : Setting) (h : History) (k : ℕ) (e : Entry) (drawn : Drawn) → Lawful t h → at h k ≡ Some e → drawn_in e.kind ≡ Some drawn → (g : ℕ) × Drew g drawn h
+pub drew_at : (t : Setting) (h : History) (k : ℕ) (e : Entry) (drawn : Drawn) → Lawful t h → at h k ≡ Some e → drawn_in e.kind ≡ Some drawn → (g : ℕ) × Drew g drawn h
 drew_at t [] k e drawn lawful there is = absurd (cc)
 drew_at t (new ∷ h) k e drawn lawful there is = by (k == length h + 1) there (drew_at t h k e drawn lawful.0)
   where

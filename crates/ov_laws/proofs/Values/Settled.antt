@@ -27,7 +27,7 @@ use Rattle.ov_history.specs.Marks.{mark, mark_by, visible}
 use Rattle.ov_history.specs.May.{Setting, Lawful, MayAsk, MaySettle, upper}
 use Rattle.ov_history.specs.Serial.{begun_at, serial_at}
 use Rattle.ov_history.specs.Settlers.{Round, open_round, settled, upper_end, values_in, values_of, known_below, harvest}
-use Rattle.ov_laws.proofs.History.Counting.{least_less}
+use Rattle.ov_history.proofs.Counting.{least_less}
 use Rattle.ov_laws.proofs.Watermarks.Finals.{visible_final}
 use Rattle.ov_laws.proofs.History.Gathered.{greatest_grows}
 use Rattle.ov_laws.proofs.Watermarks.Later.{begun_later, serial_later}

@@ -24,7 +24,7 @@ use Rattle.ov_history.specs.May.{Setting, Guard, May, Lawful}
 use Rattle.ov_laws.specs.Final.{Final, FinalAll}
 use Rattle.ov_laws.proofs.History.Gathered.{greatest_grows}
 use Rattle.ov_laws.proofs.History.Earlier.{some_at, letter_at}
-use Rattle.ov_laws.proofs.History.Counting.{none_below, none_passes, all_grow, weight_grows, least_under}
+use Rattle.ov_history.proofs.Counting.{none_below, none_passes, all_more, weight_more, least_under}
 use Rattle.ov_laws.proofs.History.Sent.{ack_sent}
 use Rattle.ov_laws.proofs.Watermarks.Known.{IsMark, Good, marks_good, draw_late}
 use Rattle.ov_history.proofs.Given.{gate_known}
@@ -115,7 +115,7 @@ low_is_mark t = record {
   stays = λ g e h drawn full. quorum_by t g (e ∷ h) drawn (λ p inside touched.
       let had : t.write ≤ ackers t g drawn.version p h = quorum_there t g h drawn full p inside touched in
       let more : ackers t g drawn.version p h ≤ ackers t g drawn.version p (e ∷ h) =
-      weight_grows t (λ c. acked g drawn.version c p h) (λ c. acked g drawn.version c p (e ∷ h)) (λ c yet. acked_stays g drawn.version c p e h yet) in
+      weight_more t (λ c. acked g drawn.version c p h) (λ c. acked g drawn.version c p (e ∷ h)) (λ c yet. acked_stays g drawn.version c p e h yet) in
       omega (arith, had, more));
 }
 
@@ -126,7 +126,7 @@ full_is_mark t = record {
   known = λ a g h. refl;
   published = λ g time h. refl;
   stays = λ g e h drawn full. copies_by t g (e ∷ h) drawn (λ p inside touched.
-      all_grow (λ c. acked g drawn.version c p h) (λ c. acked g drawn.version c p (e ∷ h)) t.centres
+      all_more (λ c. acked g drawn.version c p h) (λ c. acked g drawn.version c p (e ∷ h)) t.centres
       (λ c yet. acked_stays g drawn.version c p e h yet) (copies_there t g h drawn full p inside touched));
 }
 
@@ -166,7 +166,7 @@ visible_final t h a lawful = record {
       let full : lacks_quorum t.topology g h drawn ≡ false = (low_good t h lawful a g).clear drawn is.drew (omega (arith, under, is.less)) in
       let had : t.topology.write ≤ ackers t.topology g drawn.version p h = quorum_there t.topology g h drawn full p is.inside is.touched in
       let more : ackers t.topology g drawn.version p h ≤ holders t.topology drawn.version p h =
-      weight_grows t.topology (λ c. acked g drawn.version c p h) (λ c. stored c p drawn.version h) (λ c yet. acked_is_stored t h lawful g drawn.version c p yet) in
+      weight_more t.topology (λ c. acked g drawn.version c p h) (λ c. stored c p drawn.version h) (λ c yet. acked_is_stored t h lawful g drawn.version c p yet) in
       omega (arith, had, more);
   closed = λ g known.
       let under : visible t.topology a h ≤ mark low_of a g h = watermark_under low_of t.topology a h g known in
@@ -181,7 +181,7 @@ replicated_final t h a lawful = record {
       let g = is.gate in
       let under : replicated t.topology a h ≤ mark full_of a g h = watermark_under full_of t.topology a h g is.known in
       let full : lacks_copies t.topology g h drawn ≡ false = (full_good t h lawful a g).clear drawn is.drew (omega (arith, under, is.less)) in
-      all_grow (λ c. acked g drawn.version c p h) (λ c. stored c p drawn.version h) t.topology.centres
+      all_more (λ c. acked g drawn.version c p h) (λ c. stored c p drawn.version h) t.topology.centres
       (λ c yet. acked_is_stored t h lawful g drawn.version c p yet) (copies_there t.topology g h drawn full p is.inside is.touched);
   closed = λ g known.
       let under : replicated t.topology a h ≤ mark full_of a g h = watermark_under full_of t.topology a h g known in

@@ -19,7 +19,7 @@ use Rattle.ov_history.specs.May.{Setting, Guard, May, Lawful}
 use Rattle.ov_laws.specs.Final.{IsClosed, Final, FinalAll, IsBelow}
 use Rattle.ov_history.specs.Serial.{begun_as, or_begun, begun_at, serial_at}
 use Rattle.ov_laws.proofs.History.Gathered.{greatest_grows}
-use Rattle.ov_laws.proofs.History.Counting.{all_grow, weight_grows}
+use Rattle.ov_history.proofs.Counting.{all_more, weight_more}
 use Rattle.ov_laws.proofs.Watermarks.Known.{draw_late}
 use Rattle.ov_laws.proofs.Watermarks.Finals.{stored_stays, draw_known}
 
@@ -60,7 +60,7 @@ final_step t h e w final may = record {
     by drawn p is (inr old) =
         let had : t.topology.write ≤ holders t.topology drawn.version p h = final.held drawn p (still_below t.topology h w e drawn p is old) in
         let more : holders t.topology drawn.version p h ≤ holders t.topology drawn.version p (e ∷ h) =
-        weight_grows t.topology (λ c. stored c p drawn.version h) (λ c. stored c p drawn.version (e ∷ h)) (λ c yet. stored_stays c p drawn.version e h yet) in
+        weight_more t.topology (λ c. stored c p drawn.version h) (λ c. stored c p drawn.version (e ∷ h)) (λ c yet. stored_stays c p drawn.version e h yet) in
         omega (arith, had, more)
 
 -- a final watermark stays final
@@ -80,7 +80,7 @@ final_all_step t h e w final may = record {
         let above : w ≤ drawn.version = draw_above t h e is.gate drawn w final.closed may new in
         absurd (omega (arith, above, is.less))
     by drawn p is (inr old) =
-        all_grow (λ c. stored c p drawn.version h) (λ c. stored c p drawn.version (e ∷ h)) t.topology.centres
+        all_more (λ c. stored c p drawn.version h) (λ c. stored c p drawn.version (e ∷ h)) t.topology.centres
         (λ c yet. stored_stays c p drawn.version e h yet) (final.held drawn p (still_below t.topology h w e drawn p is old))
 
 -- a watermark that is final for all copies stays so

@@ -19,7 +19,7 @@ use Rattle.ov_history.specs.Placement.{acked, ackers}
 use Rattle.ov_history.specs.Marks.{mark, mark_in, mark_by, visible, replicated, lacks_quorum, lacks_copies, lowest, own_marks}
 use Rattle.ov_history.specs.May.{Setting, Guard, Lawful, MayHear}
 use Rattle.ov_laws.proofs.History.Gathered.{greatest_less}
-use Rattle.ov_laws.proofs.History.Counting.{weight_of_all, least_less}
+use Rattle.ov_history.proofs.Counting.{weight_of_all, least_less}
 use Rattle.ov_laws.proofs.History.Earlier.{letter_at}
 use Rattle.ov_laws.proofs.History.Sent.{gossip_sent}
 use Rattle.ov_laws.proofs.Watermarks.Known.{lowest_less, mark_past}

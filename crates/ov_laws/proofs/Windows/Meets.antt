@@ -16,7 +16,7 @@ use Rattle.ov_history.specs.Settlers.{Round, took, IsEnough}
 use Rattle.ov_history.specs.May.{Setting, May, Lawful, MayAsk}
 use Rattle.ov_laws.specs.Final.{IsClosed, Final, FinalAll}
 use Rattle.ov_history.specs.Serial.{begun_at}
-use Rattle.ov_laws.proofs.History.Counting.{marked_more}
+use Rattle.ov_history.proofs.Counting.{marked_push}
 use Rattle.ov_history.proofs.Past.{lawful_at, lawful_before}
 use Rattle.ov_laws.proofs.Watermarks.Finals.{visible_final, replicated_final}
 use Rattle.ov_laws.proofs.Times.Begun.{final_begun, final_all_begun}
@@ -28,7 +28,7 @@ use Rattle.ov_history.proofs.Given.{all_below_at}
 -- where more pass two tests together than there are numbers, one passes both
 marked_meet : (f g : ℕ → Bool) (n : ℕ) → n < marked (passing f n) + marked (passing g n) → (c : ℕ) × (c < n) × (f c ≡ true) × (g c ≡ true)
 marked_meet f g zero many = absurd (omega (arith, many))
-marked_meet f g (suc n) many = by (f n) (g n) refl refl (marked_more (passing f n) (f n)) (marked_more (passing g n) (g n)) (marked_meet f g n)
+marked_meet f g (suc n) many = by (f n) (g n) refl refl (marked_push (passing f n) (f n)) (marked_push (passing g n) (g n)) (marked_meet f g n)
   where
     later : (c : ℕ) × (c < n) × (f c ≡ true) × (g c ≡ true) → (c : ℕ) × (c < suc n) × (f c ≡ true) × (g c ≡ true)
     later found = (found.0, let less : found.0 < n = found.1 in omega (arith, less), found.2, found.3)

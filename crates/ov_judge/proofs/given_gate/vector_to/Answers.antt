@@ -1,5 +1,5 @@
 use Rattle.std.proofs.Common.{arith}
-use Rattle.ov_judge.proofs.Gates.{vector_made}
+use Rattle.ov_history.proofs.Given.{vector_made}
 use Rattle.ov_judge.proofs.given_gate.vector_to.Goals as goal
 
 pub returns : goal.returns

@@ -1,4 +1,3 @@
-use Rattle.std.proofs.Common.{sym, ap, ◌∙◌}
 use Rattle.ov_gate.proofs.Admits.{reply_iff}
 use Rattle.ov_gate.proofs.gate.GateCore.admits_kind.Goals as goal
 

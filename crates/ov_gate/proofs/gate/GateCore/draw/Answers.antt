@@ -1,4 +1,4 @@
-use Rattle.std.proofs.Common.{refl, sym, ap, ◌∙◌, arith}
+use Rattle.std.proofs.Common.{arith}
 use Rattle.ov_gate.proofs.Begins.{draw_none, draw_steps}
 use Rattle.ov_gate.proofs.gate.GateCore.draw.Goals as goal
 

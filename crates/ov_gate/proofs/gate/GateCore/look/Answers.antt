@@ -1,4 +1,3 @@
-use Rattle.std.proofs.Common.{refl, sym, ◌∙◌}
 use Rattle.ov_gate.proofs.Begins.{look_steps}
 use Rattle.ov_gate.proofs.gate.GateCore.look.Goals as goal
 

@@ -1,4 +1,4 @@
-use Rattle.std.proofs.Common.{◌≡◌, sym, ap, ◌∙◌}
+use Rattle.std.proofs.Common.{◌≡◌, sym, ap}
 use Rattle.ov_session.specs.Standing.{MayBegin}
 use Rattle.ov_history.specs.Sessions.{events_of}
 use Rattle.ov_gate.specs.Gate.{GateState}

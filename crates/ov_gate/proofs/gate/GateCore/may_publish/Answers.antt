@@ -1,4 +1,4 @@
-use Rattle.std.proofs.Common.{sym, ap, ◌∙◌, arith}
+use Rattle.std.proofs.Common.{◌∙◌}
 use Rattle.ov_gate.proofs.Admits.{publish_iff, gate_there}
 use Rattle.ov_gate.proofs.Publishes.{least_is}
 use Rattle.ov_gate.proofs.gate.GateCore.may_publish.Goals as goal

@@ -1,4 +1,3 @@
-use Rattle.std.proofs.Common.{◌≡◌, refl, sym, ◌∙◌}
 use Rattle.ov_gate.proofs.Calls.{stop_steps}
 use Rattle.ov_gate.proofs.gate.GateCore.stop.Goals as goal
 

@@ -1,6 +1,6 @@
 use Rattle.std.proofs.Common.{◌≡◌, ℕ, ◌<◌, ◌≤◌, length}
 use Rattle.ov_gossip.specs.Marks.{greater, mark_at}
-use Rattle.ov_gate.proofs.gate.hear.Given as goal
+use Rattle.ov_gate.proofs.gate.take.hear.Given as goal
 
 abbrev pub invariant-loop-gate : goal.invariant-loop-gate
 invariant-loop-gate l = record {

@@ -1,7 +1,7 @@
 use Rattle.std.proofs.Common.{◌≡◌, ◌==◌, ℕ, ◌<◌, ◌≤◌, length}
 use Rattle.std.specs.Prelude.{if◌then◌else◌}
 use Rattle.ov_gossip.specs.Marks.{no_marks, mark_at}
-use Rattle.ov_gate.proofs.gate.vector_with.Given as goal
+use Rattle.ov_gate.proofs.gate.publish.vector_with.Given as goal
 
 abbrev pub invariant-loop-other : goal.invariant-loop-other
 invariant-loop-other l = record {
