@@ -12,8 +12,7 @@ mod harvest;
 mod laws;
 mod plan;
 mod round;
-#[cfg(test)]
-mod tests;
+mod union;
 
 pub use evaluate::eval_all;
 pub use harvest::Harvest;
