@@ -12,6 +12,8 @@ mod harvest;
 mod laws;
 mod plan;
 mod round;
+#[cfg(test)]
+mod tests;
 mod union;
 
 pub use evaluate::eval_all;
