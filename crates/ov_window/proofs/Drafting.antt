@@ -113,8 +113,8 @@ draft_more base older tasks places more item inputs draft before inputs_are inse
     record {
       tasks_are = λ i. draft.tasks_are i ++ record { version = item.version; key = item.key; functor = item.functor; inputs = read i } ∷ [];
       known = subst (AllByRecursion (λ entry. HasItem (item ∷ older) entry.version entry.key)) (sym more_is)
-      (all_put stands_before (λ entry. HasItem (item ∷ older) entry.version entry.key) _ (record { found = item; within = inl refl; version_is = refl; key_is = refl }) places
-      (all_weaker (λ entry. HasItem older entry.version entry.key) (λ entry. HasItem (item ∷ older) entry.version entry.key) (λ entry. has_more item older entry.version entry.key) places draft.known));
+          (all_put stands_before (λ entry. HasItem (item ∷ older) entry.version entry.key) _ (record { found = item; within = inl refl; version_is = refl; key_is = refl }) places
+          (all_weaker (λ entry. HasItem older entry.version entry.key) (λ entry. HasItem (item ∷ older) entry.version entry.key) (λ entry. has_more item older entry.version entry.key) places draft.known));
       inputs = λ version key. inputs_more base older item (length tasks) places draft.known before count version key (draft.inputs version key) ∙ ap (λ now. input_at base now version key) (sym more_is);
     }
 

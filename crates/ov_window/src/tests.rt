@@ -67,7 +67,10 @@ fn two_of_three_answers_complete_a_partition(rt: HostRuntime) -> Result<(), Fail
     assert_eq!(rt; (harvest.complete(0), harvest.whole()), (false, false));
     assert_eq!(rt; harvest.add(2, 0, &[])?, true);
     assert_eq!(rt; (harvest.complete(0), harvest.whole()), (true, true));
-    assert_eq!(rt; (harvest.complete(1), harvest.round().below), (false, 1 << 62));
+    assert_eq!(rt;
+        (harvest.complete(1), harvest.round().below),
+        (false, 1 << 62)
+    );
     Ok(())
 }
 
@@ -82,7 +85,10 @@ fn a_move_takes_the_values_of_earlier_places(rt: HostRuntime) -> Result<(), Fail
     add_items(rt.alloc(), 1, "put a 3", &mut items)?;
     assert_eq!(rt; harvest.add_all(1, 0, items)?, true);
     let plan = Plan::build(rt.alloc(), &harvest, &base)?;
-    assert_eq!(rt; amounts_of(rt.alloc(), &plan)?.as_slice(), [3, 1, 2].as_slice());
+    assert_eq!(rt;
+        amounts_of(rt.alloc(), &plan)?.as_slice(),
+        [3, 1, 2].as_slice()
+    );
     let plan = Plan::of(rt.alloc(), harvest, &base)?;
     let mut places = Vec::new(rt.alloc());
     for task in plan.tasks() {
@@ -109,6 +115,9 @@ fn five_thousand_sums_of_one_key(rt: HostRuntime) -> Result<(), Fail> {
     for amount in 1..5001 {
         wanted.push(amount)?;
     }
-    assert_eq!(rt; amounts_of(rt.alloc(), &plan)?.as_slice(), wanted.as_slice());
+    assert_eq!(rt;
+        amounts_of(rt.alloc(), &plan)?.as_slice(),
+        wanted.as_slice()
+    );
     Ok(())
 }

@@ -25,7 +25,7 @@ loop-item-preserved c =
     record {
       count = omega (arith, c.in-Some.ensures.steps.1, ap length left, c.loop-item.invariant.count);
       partway = one_done _ _ c.in-Some.item _ c.loop-item.tasks.items c.add_task.new.tasks.items c.loop-item.places.entries c.add_task.new.places.entries partway
-      (c.in_ok-add_task.ensures partway.done (next_behind _ _ c.in-Some.item _ c.loop-item.tasks.items c.loop-item.places.entries (all_added_sorted c.args.items.items [] tt) partway) partway.draft);
+          (c.in_ok-add_task.ensures partway.done (next_behind _ _ c.in-Some.item _ c.loop-item.tasks.items c.loop-item.places.entries (all_added_sorted c.args.items.items [] tt) partway) partway.draft);
     }
 
 pub invariant_of-result : goal.invariant_of-result
