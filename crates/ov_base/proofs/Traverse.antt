@@ -23,6 +23,10 @@ pub all_of_next : {A B : Type 0} (f : A → Option B) (xs : List A) (i : ℕ) (d
     → i < length xs → f (get_or xs i d) ≡ Some y → with_front front (all_of f (drop i xs)) ≡ with_front (front ++ y ∷ []) (all_of f (drop (i + 1) xs))
 all_of_next f xs i d y front lt e = rw (drop_more xs i d lt, e) (front_then front y (all_of f (drop (i + 1) xs)))
 
+-- what a list of words that code keeps has past its end
+abbrev pub blank : Bor (List ℕ)
+blank = record { ref_ptr = (0, 0); now = [] }
+
 -- the same for words that code keeps
 pub all_of_words_next : {B : Type 0} (f : List ℕ → Option B) (words : List (Bor (List ℕ))) (i : ℕ) (d : Bor (List ℕ)) (y : B) (front : List B)
     → i < length words → f ((get_or words i d).now) ≡ Some y

@@ -10,6 +10,7 @@
 
 mod journal;
 mod task;
+mod window;
 
 use anyhow::{Context, Result, bail};
 use std::env;
@@ -35,6 +36,8 @@ fn work(rt: &HostRuntime, word: &str, task: &Task) -> Result<usize> {
     match word {
         "read_journal" => journal::read(rt, task),
         "write_journal" => journal::write(rt, task),
+        "plan_window" => window::plan(rt, task, 8),
+        "plan_keys" => window::plan(rt, task, task.size / 2),
         _ => bail!("no such word: {word}"),
     }
 }

@@ -1,5 +1,5 @@
 -- The values of a plan, one for each place.
-use Rattle.std.specs.Prelude.{ℕ, List, [], ◌∷◌, ◌++◌, get_or, map}
+use Rattle.std.specs.Prelude.{List, [], ◌∷◌, ◌++◌, get_or, map}
 use Rattle.ov_base.specs.declared.value.Value.{Value}
 use Rattle.ov_base.specs.declared.value.Value.TheVariants.{Absent}
 use Rattle.ov_functor.specs.Functor.{apply}

@@ -1,6 +1,6 @@
 //! The harvest of a round.
-ghost use Rattle.std.specs.Prelude.{◌≡◌, ◌<◌, not, true, false, IfOk, OnErr, IsTrue, ◌↔◌, Ok};
-ghost use Rattle.ov_window.specs.Harvest.{IsComplete, IsWhole, fresh, has_answered, with_answer};
+ghost use Rattle.std.specs.Prelude.{◌≡◌, ◌<◌, ◌≤◌, not, true, false, IfOk, OnOk, OnErr, IsTrue, ◌↔◌, Ok, get_or, length, map, replicate};
+ghost use Rattle.ov_window.specs.Harvest.{IsComplete, IsEnough, IsWhole, fresh, has_answered, with_answer};
 
 use crate::round::Round;
 use ov_base::{Memory, Plain};
@@ -34,7 +34,14 @@ impl Harvest {
     /// The harvest of a round that no node has answered.
     pub fn new(alloc: Global, topology: &Topology, round: Round) -> Result<Harvest, Memory>
         ensures { IfOk result (λ harvest. harvest ≡ fresh topology.now round) }
-    {}
+    {
+        Ok(Harvest {
+            topology: topology.copy()?,
+            round,
+            answered: unmarked(alloc, topology.partitions(), topology.centres())?,
+            items: Vec::new(alloc),
+        })
+    }
 
     /// Adds the answer of a node. False exactly where the node has answered already, and then nothing has changed; on an error nothing
     /// has changed. Condition: the node is in the topology.
@@ -45,7 +52,14 @@ impl Harvest {
         ensures added { result ≡ Ok true → self.new ≡ with_answer self.old centre part items.now }
         ensures again { result ≡ Ok false → self.new ≡ self.old }
         ensures err { OnErr result (self.new ≡ self.old) }
-    {}
+    {
+        if self.has_answered(centre, part) {
+            return Ok(false);
+        }
+        let copies = copied(*self.items.allocator(), items)?;
+        self.take_answer(centre, part, copies)?;
+        Ok(true)
+    }
 
     /// The same with an answer that is handed over, so that no functor is copied. The only error is out of memory.
     pub fn add_all(&mut self, centre: u32, part: u32, items: Vec<Item>) -> Result<bool, Memory>
@@ -55,18 +69,36 @@ impl Harvest {
         ensures added { result ≡ Ok true → self.new ≡ with_answer self.old centre part items.items }
         ensures again { result ≡ Ok false → self.new ≡ self.old }
         ensures err { OnErr result (self.new ≡ self.old) }
-    {}
+    {
+        if self.has_answered(centre, part) {
+            return Ok(false);
+        }
+        self.take_answer(centre, part, items)?;
+        Ok(true)
+    }
 
     /// Whether the partition gave answers enough: of a read quorum of centres, or in a round of mode `one` of the settler's own centre.
     /// Does not allocate.
     pub fn complete(&self, part: u32) -> bool
         ensures { IsTrue result ↔ IsComplete self.now part }
-    {}
+    {
+        if part >= self.topology.partitions() {
+            return false;
+        }
+        self.is_enough(self.answered[part as usize].as_slice())
+    }
 
     /// Whether each partition gave answers enough. Does not allocate.
     pub fn whole(&self) -> bool
         ensures { IsTrue result ↔ IsWhole self.now }
-    {}
+    {
+        for part in 0..self.topology.partitions() {
+            if !self.complete(part) {
+                return false;
+            }
+        }
+        true
+    }
 
     /// Its round.
     pub fn round(&self) -> Round
@@ -74,4 +106,84 @@ impl Harvest {
     {
         self.round
     }
+
+    /// The items of its answers, one answer behind the other.
+    pub(crate) fn items(&self) -> &[Item]
+        ensures { result.now ≡ self.now.items }
+    {
+        self.items.as_slice()
+    }
+
+    /// The items of its answers, moved out.
+    pub(crate) fn into_items(self) -> Vec<Item>
+        ensures { result.items ≡ self.items }
+    {
+        self.items
+    }
+
+    /// Whether the node has answered. Condition: the node is in the topology.
+    fn has_answered(&self, centre: u32, part: u32) -> bool
+        requires centre { centre < self.now.topology.centres }
+        requires part { part < self.now.topology.partitions }
+        ensures { result ≡ has_answered self.now centre part }
+    {
+        self.answered[part as usize][centre as usize]
+    }
+
+    /// Marks the node, and moves the items of its answer behind the held ones. On an error nothing has changed.
+    fn take_answer(&mut self, centre: u32, part: u32, items: Vec<Item>) -> Result<(), Memory>
+        requires centre { centre < self.old.topology.centres }
+        requires part { part < self.old.topology.partitions }
+        ensures ok { OnOk result (self.new ≡ with_answer self.old centre part items.items) }
+        ensures err { OnErr result (self.new ≡ self.old) }
+    {
+        let mut answer = items;
+        self.items.append(&mut answer)?;
+        self.answered[part as usize][centre as usize] = true;
+        Ok(())
+    }
+
+    /// Whether these marks of a partition are enough. Condition: there is no more than one for each centre.
+    fn is_enough(&self, marks: &[bool]) -> bool
+        requires { length marks.now ≤ self.now.topology.centres }
+        ensures { IsTrue result ↔ IsEnough self.now.topology self.now.round.settler marks.now self.now.round.mode }
+    {
+        match self.round.mode {
+            Mode::Quorum => self.topology.votes_of(marks) >= self.topology.read_quorum(),
+            Mode::One => is_marked(marks, self.round.settler),
+        }
+    }
+}
+
+fn is_marked(marks: &[bool], centre: u32) -> bool
+    ensures { result ≡ get_or marks.now centre false }
+{
+    match marks.get(centre as usize) {
+        Some(mark) => *mark,
+        None => false,
+    }
+}
+
+/// The marks of partitions of which no node has answered.
+fn unmarked(alloc: Global, partitions: u32, centres: u32) -> Result<Vec<Vec<bool>>, Memory>
+    ensures { IfOk result (λ marks. map (λ v. v.items) marks.items ≡ replicate partitions (replicate centres false)) }
+{
+    let mut marks = Vec::new(alloc);
+    for _ in 0..partitions {
+        let mut centre_marks = Vec::new(alloc);
+        centre_marks.resize(centres as usize, false)?;
+        marks.push(centre_marks)?;
+    }
+    Ok(marks)
+}
+
+/// Copies of the items.
+pub fn copied(alloc: Global, items: &[Item]) -> Result<Vec<Item>, Memory>
+    ensures { IfOk result (λ copies. copies.items ≡ items.now) }
+{
+    let mut copies = Vec::with_capacity(alloc, items.len())?;
+    for item in items {
+        copies.push(item.copy()?)?;
+    }
+    Ok(copies)
 }

@@ -14,6 +14,7 @@ mod plan;
 mod round;
 #[cfg(test)]
 mod tests;
+mod union;
 
 pub use evaluate::eval_all;
 pub use harvest::Harvest;

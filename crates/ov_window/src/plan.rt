@@ -1,10 +1,16 @@
 //! The plan of a harvest.
-ghost use Rattle.std.specs.Prelude.{◌≡◌, IfOk};
-ghost use Rattle.ov_window.specs.Plan.{IsPlan, plan_over};
+ghost use Rattle.std.specs.Prelude.{◌≡◌, List, ◌∷◌, map, true, IfOk, OnOk};
+ghost use Rattle.ov_functor.specs.Functor.{reads};
+ghost use Rattle.ov_functor.specs.Unions.{precedes, union};
+ghost use Rattle.ov_functor.specs.Windows.{Among};
+ghost use Rattle.ov_functor.specs.declared.item.Item as items;
+ghost use Rattle.ov_window.specs.Drafts.{IsDraft, input_at};
+ghost use Rattle.ov_window.specs.Plan.{IsPlan, map_below, plan_of, plan_over};
 
-use crate::harvest::Harvest;
+use crate::harvest::{Harvest, copied};
+use crate::union::united;
 use ov_base::{Key, Memory, Sequence, Value, Version};
-use ov_functor::Functor;
+use ov_functor::{Functor, Item};
 use ov_lists::VersionLists;
 use std::alloc::Global;
 use std::marker::Model;
@@ -60,12 +66,18 @@ impl Plan {
         base: &VersionLists<Value>,
     ) -> Result<Plan, Memory>
         ensures { IfOk result (λ plan. plan ≡ plan_over base.now.entries harvest.now) }
-    {}
+    {
+        let items = copied(alloc, harvest.items())?;
+        planned(alloc, items, harvest.round().from, base)
+    }
 
     /// The same of a harvest that is handed over, so that no functor is copied.
     pub fn of(alloc: Global, harvest: Harvest, base: &VersionLists<Value>) -> Result<Plan, Memory>
         ensures { IfOk result (λ plan. plan ≡ plan_over base.now.entries harvest) }
-    {}
+    {
+        let from = harvest.round().from;
+        planned(alloc, harvest.into_items(), from, base)
+    }
 
     /// Its tasks, by version and then key. Does not allocate.
     pub fn tasks(&self) -> &[Task]
@@ -73,5 +85,89 @@ impl Plan {
         ensures form { IsPlan self.now }
     {
         self.tasks.as_slice()
+    }
+}
+
+/// The plan of these items over the values just below a number.
+fn planned(
+    alloc: Global,
+    items: Vec<Item>,
+    from: u64,
+    base: &VersionLists<Value>,
+) -> Result<Plan, Memory>
+    ensures { IfOk result (λ plan. plan ≡ plan_of (map_below from base.now.entries) (union items.items)) }
+{
+    let items = united(items)?;
+    let mut tasks = Vec::with_capacity(alloc, items.len())?;
+    let mut places = VersionLists::new(alloc);
+    for item in items {
+        add_task(alloc, item, from, base, &mut tasks, &mut places)?;
+    }
+    Ok(Plan { tasks })
+}
+
+/// Adds the task of an item, which stands behind all before it, and its place.
+fn add_task(
+    alloc: Global,
+    item: Item,
+    from: u64,
+    base: &VersionLists<Value>,
+    tasks: &mut Vec<Task>,
+    places: &mut VersionLists<usize>,
+) -> Result<(), Memory>
+    ensures { OnOk result ((older : List items.Item) → ((other : items.Item) → Among other older → precedes other item ≡ true) → IsDraft (map_below from base.now.entries) older tasks.old.items places.old.entries → IsDraft (map_below from base.now.entries) (item ∷ older) tasks.new.items places.new.entries) }
+{
+    let inputs = inputs_of(alloc, &item.functor, item.version, from, base, places)?;
+    places.insert(item.key, item.version, tasks.len())?;
+    tasks.push(Task {
+        version: item.version,
+        key: item.key,
+        functor: item.functor,
+        inputs,
+    })?;
+    Ok(())
+}
+
+/// The inputs of the keys that a functor reads.
+fn inputs_of(
+    alloc: Global,
+    functor: &Functor,
+    version: Version,
+    from: u64,
+    base: &VersionLists<Value>,
+    places: &VersionLists<usize>,
+) -> Result<Sequence<Input>, Memory>
+    ensures { IfOk result (λ inputs. inputs ≡ map (input_at (map_below from base.now.entries) places.now.entries version) (reads functor.now)) }
+{
+    let mut inputs = Sequence::new(alloc);
+    for index in 0..functor.read_count() {
+        let key = functor.read_key(index);
+        inputs.push(input_of(key, version, from, base, places))?;
+    }
+    Ok(inputs)
+}
+
+fn input_of(
+    key: Key,
+    version: Version,
+    from: u64,
+    base: &VersionLists<Value>,
+    places: &VersionLists<usize>,
+) -> Input
+    ensures { result ≡ input_at (map_below from base.now.entries) places.now.entries version key }
+{
+    match places.latest(key, version.number()) {
+        Some((_, place)) => Input::Earlier(*place),
+        None => Input::Base(value_below(key, from, base)),
+    }
+}
+
+/// The value of a key just below a number.
+fn value_below(key: Key, from: u64, base: &VersionLists<Value>) -> Value
+    ensures { result ≡ map_below from base.now.entries key }
+{
+    match base.latest(key, from) {
+        Some((_, value)) => *value,
+        None => Value::Absent,
     }
 }

@@ -1,7 +1,7 @@
 use Rattle.std.proofs.Common.{◌≡◌, ◌++◌, ◌∷◌, [], ◌+◌, ◌*◌, drop, sym, ap, ◌∙◌, rules, arith}
 use Rattle.ov_base.specs.Groups.{words_in}
 use Rattle.ov_base.specs.Split.{with_front}
-use Rattle.ov_base.proofs.LineTexts.{blank}
+use Rattle.ov_base.proofs.Traverse.{blank}
 use Rattle.ov_event.specs.ItemWords.{moves_of}
 use Rattle.ov_event.proofs.ItemLoops.{moves_next, moves_stop, moves_end, moves_odd}
 use Rattle.ov_event.proofs.item_text.moves_read.Goals as goal

@@ -1,8 +1,7 @@
 use Rattle.std.proofs.Common.{◌≡◌, ◌++◌, ◌∷◌, [], get_or, drop, ◌+◌, Some, sym, ap, ◌∙◌, rules, arith}
 use Rattle.ov_base.specs.Split.{all_of, with_front}
 use Rattle.ov_base.specs.Groups.{words_in}
-use Rattle.ov_base.proofs.LineTexts.{blank}
-use Rattle.ov_base.proofs.Traverse.{all_of_words_next}
+use Rattle.ov_base.proofs.Traverse.{blank, all_of_words_next}
 use Rattle.ov_functor.specs.ReplyWords.{shown_of}
 use Rattle.ov_functor.proofs.reply_words.showns_read.Goals as goal
 

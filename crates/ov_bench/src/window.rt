@@ -1,0 +1,70 @@
+//! Gathering a window, planning it and computing its values.
+use crate::task::Task;
+use anyhow::{Context, Result, bail};
+use ov_base::{Amount, Key, Value, Version};
+use ov_functor::{Effect, Functor, Item};
+use ov_lists::VersionLists;
+use ov_topology::{Mode, Topology};
+use ov_window::{Harvest, Plan, Round, eval_all};
+
+const ROUND: Round = Round {
+    mode: Mode::One,
+    settler: 0,
+    from: 0,
+    below: 1 << 62,
+};
+
+/// Gathers, plans and evaluates so often a window of SIZE sums on so many keys; how many values it has.
+pub fn plan(rt: &HostRuntime, task: &Task, keys: usize) -> Result<usize> {
+    let items = items_of(rt, task.size, keys)?;
+    let Ok(topology) = Topology::of(rt.alloc(), 1, 1, &[0], 1, 1) else {
+        bail!("out of memory");
+    };
+    let base: VersionLists<Value> = VersionLists::new(rt.alloc());
+    let mut count = 0;
+    for _ in 0..task.times {
+        let Some(values) = planned(rt, &topology, items.as_slice(), &base) else {
+            bail!("out of memory");
+        };
+        count = values;
+    }
+    Ok(count)
+}
+
+/// Gathers, plans and evaluates the items; how many values there are. None where memory runs out.
+fn planned(
+    rt: &HostRuntime,
+    topology: &Topology,
+    items: &[Item],
+    base: &VersionLists<Value>,
+) -> Option<usize> {
+    let mut harvest = Harvest::new(rt.alloc(), topology, ROUND).ok()?;
+    if topology.partitions() > 0 && topology.centres() > 0 {
+        harvest.add(0, 0, items).ok()?;
+    }
+    let plan = Plan::of(rt.alloc(), harvest, base).ok()?;
+    let values = eval_all(rt.alloc(), &plan).ok()?;
+    Some(values.len())
+}
+
+/// So many sums, one after another, on each of the keys in turn.
+fn items_of(rt: &HostRuntime, size: usize, keys: usize) -> Result<Vec<Item>> {
+    let mut items = Vec::new(rt.alloc());
+    for place in 0..size {
+        items.push(item_at(rt, place, keys)?)?;
+    }
+    Ok(items)
+}
+
+/// The sum at a place.
+fn item_at(rt: &HostRuntime, place: usize, keys: usize) -> Result<Item> {
+    let name = format!(in rt.alloc(); "k{}", place.checked_rem(keys).unwrap_or(0))?;
+    let key = Key::from_bytes(name.as_bytes()).context("a key")?;
+    let amount = Amount::new(1).context("an amount")?;
+    let functor = Functor::new(key, Effect::Add(amount), Vec::new(rt.alloc()));
+    Ok(Item {
+        version: Version::new(place as u64, 0).context("a version")?,
+        key,
+        functor: functor.ok().context("a functor")?,
+    })
+}

@@ -1,0 +1,5 @@
+pub mod Marks
+pub mod Repeats
+pub mod Drafting
+pub mod Evaluating
+pub mod PlanValues

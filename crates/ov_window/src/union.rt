@@ -1,0 +1,59 @@
+//! The union of items: by version and then key, each version and key once.
+ghost use Rattle.std.specs.Prelude.{◌≡◌, IfOk};
+ghost use Rattle.std.specs.Cmp.Lexicographic.{slice_cmp};
+ghost use Rattle.std.specs.Ordering.{nat_cmp, ordering_then};
+ghost use Rattle.ov_functor.specs.Unions as unions;
+ghost use Rattle.ov_window.specs.Once as spec;
+
+use ov_base::Memory;
+use ov_functor::Item;
+use std::cmp::Ordering;
+
+/// The union of items: by version and then key, of one version and key the first.
+pub fn united(items: Vec<Item>) -> Result<Vec<Item>, Memory>
+    ensures { IfOk result (λ v. v.items ≡ unions.union items.items) }
+{
+    let mut sorted = items;
+    sorted.sort_by(|left, right| compared(left, right))?;
+    once(sorted)
+}
+
+/// How two items compare by version, and of one version by key.
+fn compared(left: &Item, right: &Item) -> Ordering
+    ensures { result ≡ ordering_then (nat_cmp left.now.version right.now.version) (slice_cmp nat_cmp left.now.key right.now.key) }
+{
+    match left.version.cmp(&right.version) {
+        Ordering::Less => Ordering::Less,
+        Ordering::Equal => left.key.cmp(&right.key),
+        Ordering::Greater => Ordering::Greater,
+    }
+}
+
+/// Each of the items that does not repeat the last kept one.
+fn once(items: Vec<Item>) -> Result<Vec<Item>, Memory>
+    ensures { IfOk result (λ v. v.items ≡ spec.once items.items) }
+{
+    let mut kept = Vec::with_capacity(*items.allocator(), items.len())?;
+    for item in items {
+        if !repeats_last(kept.as_slice(), &item) {
+            kept.push(item)?;
+        }
+    }
+    Ok(kept)
+}
+
+fn repeats_last(kept: &[Item], item: &Item) -> bool
+    ensures { result ≡ spec.repeats_last kept.now item.now }
+{
+    match kept.last() {
+        Some(last) => is_same_place(item, last),
+        None => false,
+    }
+}
+
+/// Whether two items are of one version and key.
+fn is_same_place(item: &Item, other: &Item) -> bool
+    ensures { result ≡ unions.same_place item.now other.now }
+{
+    item.version.number() == other.version.number() && item.key == other.key
+}
