@@ -48,7 +48,7 @@ impl Blocks {
         }
     }
 
-    /// Makes room for so many more blocks. On an error there may be more room, but for fewer.
+    /// Makes room for so many more blocks. On an error no place has changed, and there is no less room than before.
     pub fn reserve(&mut self, more: usize) -> Result<(), Memory>
         ensures room { OnOk result (more ≤ self.new.spare) }
         ensures more { self.old.spare ≤ self.new.spare }

@@ -6,8 +6,8 @@
 //! at most 32, so that an insertion moves at most one block and the numbers of the blocks behind it.
 //!
 //! Start with `specs/Entries.antt`; the lemmas on its definitions, for the crates above, are exported by `proofs/Lib.antt`
-//! (`Entries` on insertion and the newest, `Sorting` on windows). The blocks are in `specs/Parts.antt` and `src/blocks.rt`,
-//! and `src/lists.rt` stands on both.
+//! (`Entries` on insertion and the newest, `Sorting` on windows, `Laws` on what stays and the next key). The blocks are in
+//! `specs/Parts.antt` and `src/blocks.rt`, and `src/lists.rt` stands on both.
 #![tactic(auto)]
 
 mod block;

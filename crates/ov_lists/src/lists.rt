@@ -107,13 +107,14 @@ impl<T> VersionLists<T> {
     }
 
     /// Takes out the entries below a number, but for the newest of each key among them where `keep_last`. The answer is how many
-    /// went. Does not allocate, and what was reserved stays.
+    /// went. The entries are in order, whatever comes. Does not allocate, and what was reserved stays.
     pub fn thin(&mut self, below: u64, keep_last: bool) -> u64
     where
         T: Drop,
         ensures entries { self.new.entries ≡ thinned below keep_last self.old.entries }
         ensures gone { result + length self.new.entries ≡ length self.old.entries }
         ensures spare { self.old.spare ≤ self.new.spare }
+        ensures ordered { IsOrdered self.new.entries }
     {
         sort_items(&mut self.items);
         let gone = keep_items(&mut self.items, below, keep_last);

@@ -47,3 +47,6 @@ returns-clause-gone g c =
     let count = ap length c.as_slice.ensures.value in
     let all = listed_all c.keep_items-gone.new.items.items c.refill.new.blocks.parts (length c.as_slice.result.now) c.refill.ensures.places count in
     omega (arith, ap length all, c.keep_items-gone.ensures.count, ap length (sorted ∙ ap (λ (s : Contents _). s.entries) c.self.view_is))
+
+pub returns-clause-ordered : goal.returns-clause-ordered
+returns-clause-ordered g c = (invariant_of-self g c).0.ordered
