@@ -1,21 +1,19 @@
 -- Sorted items without repeats are the union: both are by version and then key, and of each version and key both have the first.
-use Rattle.std.proofs.Common.{◌≡◌, ℕ, suc, ◌+◌, ◌-◌, Bool, true, false, not, ◌&&◌, cond, ◌⊎◌, inl, inr, Option, Some, None, List, [], ◌∷◌, ◌++◌, length, filter, refl, sym, ap, subst, ◌∙◌, arith, IsSortedBy}
+use Rattle.std.proofs.Common.{◌≡◌, ℕ, suc, ◌+◌, Bool, true, false, not, ◌&&◌, cond, ◌⊎◌, inl, inr, Option, Some, None, List, [], ◌∷◌, filter, refl, sym, ap, subst, ◌∙◌, arith, IsSortedBy}
 use Rattle.std.specs.Prelude.{if◌then◌else◌}
 use Rattle.std.specs.Cmp.{IsStrictWeakOrder}
 use Rattle.std.specs.Cmp.Lexicographic.{slice_cmp}
+use Rattle.std.specs.List.{dedup, dedup_from}
 use Rattle.std.specs.List.Sorted.{IsStableBy, ties as tied_in}
 use Rattle.std.specs.Ordering.{is_lt, ordering_then, nat_cmp}
 use Rattle.std.proofs.lemmas.Bool.{both_ways}
 use Rattle.std.proofs.lemmas.Grind.{common_steps}
-use Rattle.std.proofs.lemmas.List.{append_assoc, length_push}
 use Rattle.std.proofs.lemmas.List.Sorted.{ranks_by}
 use Rattle.ov_base.specs.Lemmas.{key_eq-exact}
-use Rattle.ov_base.proofs.Lists.{get_next}
 use Rattle.ov_functor.specs.declared.item.Item.{Item}
 use Rattle.ov_functor.specs.Unions.{IsSorted, added, all_added, precedes, same_place, union}
 use Rattle.ov_functor.specs.Windows.{Among}
 use Rattle.ov_functor.proofs.Unions.{added_sorted, all_added_sorted, before_both, else_after, place_total, sorted_same}
-use Rattle.ov_window.specs.Once.{once, once_behind, repeats_last}
 
 -- ---- the order
 
@@ -154,29 +152,8 @@ found_all_added y (one ∷ others) items sorted =
 
 -- ---- items without repeats
 
--- an item, and each of the others that does not repeat the last kept one
-abbrev kept_from : Item → List Item → List Item
-kept_from last [] = last ∷ []
-kept_from last (item ∷ items) = if same_place item last then kept_from last items else last ∷ kept_from item items
-
-repeats_behind : (front : List Item) (last item : Item) → repeats_last (front ++ last ∷ []) item ≡ same_place item last
-repeats_behind front last item =
-    let place : length (front ++ last ∷ []) - 1 ≡ length front = omega (arith, length_push front last) in
-    rw (place, get_next front last) refl
-
-once_is : (front : List Item) (last : Item) (items : List Item) → once_behind (front ++ last ∷ []) items ≡ front ++ kept_from last items
-once_is front last [] = refl
-once_is front last (item ∷ items) = rw (repeats_behind front last item) (by (same_place item last) (once_is front last items) (once_is (front ++ last ∷ []) item items))
-  where
-    by : (b : Bool) → once_behind (front ++ last ∷ []) items ≡ front ++ kept_from last items
-        → once_behind ((front ++ last ∷ []) ++ item ∷ []) items ≡ (front ++ last ∷ []) ++ kept_from item items
-        → (if b then once_behind (front ++ last ∷ []) items else once_behind ((front ++ last ∷ []) ++ item ∷ []) items)
-        ≡ front ++ (if b then kept_from last items else last ∷ kept_from item items)
-    by true skipped held = skipped
-    by false skipped held = held ∙ append_assoc front (last ∷ []) (kept_from item items)
-
 -- what is kept is among all
-kept_comes : (last : Item) (items : List Item) (other : Item) → Among other (kept_from last items) → Among other (last ∷ items)
+kept_comes : (last : Item) (items : List Item) (other : Item) → Among other (dedup_from same_place last items) → Among other (last ∷ items)
 kept_comes last [] other among = among
 kept_comes last (item ∷ items) other among = by (same_place item last) among (kept_comes last items other) (kept_comes item items other)
   where
@@ -184,17 +161,17 @@ kept_comes last (item ∷ items) other among = by (same_place item last) among (
     skipped (inl is) = inl is
     skipped (inr later) = inr (inr later)
 
-    held : (other ≡ last) ⊎ Among other (kept_from item items) → (Among other (kept_from item items) → Among other (item ∷ items)) → Among other (last ∷ item ∷ items)
+    held : (other ≡ last) ⊎ Among other (dedup_from same_place item items) → (Among other (dedup_from same_place item items) → Among other (item ∷ items)) → Among other (last ∷ item ∷ items)
     held (inl is) rest = inl is
     held (inr later) rest = inr (rest later)
 
-    by : (b : Bool) → Among other (if b then kept_from last items else last ∷ kept_from item items) → (Among other (kept_from last items) → Among other (last ∷ items))
-        → (Among other (kept_from item items) → Among other (item ∷ items)) → Among other (last ∷ item ∷ items)
+    by : (b : Bool) → Among other (if b then dedup_from same_place last items else last ∷ dedup_from same_place item items) → (Among other (dedup_from same_place last items) → Among other (last ∷ items))
+        → (Among other (dedup_from same_place item items) → Among other (item ∷ items)) → Among other (last ∷ item ∷ items)
     by true among same rest = skipped (same among)
     by false among same rest = held among rest
 
 -- the first of a version and key is kept
-kept_found : (y last : Item) (items : List Item) → found y (kept_from last items) ≡ found y (last ∷ items)
+kept_found : (y last : Item) (items : List Item) → found y (dedup_from same_place last items) ≡ found y (last ∷ items)
 kept_found y last [] = refl
 kept_found y last (item ∷ items) = by (same_place item last) refl (kept_found y last items) (kept_found y item items)
   where
@@ -202,13 +179,13 @@ kept_found y last (item ∷ items) = by (same_place item last) refl (kept_found 
     skipped true ties same = rw ties refl
     skipped false ties same = rw (ties, tied_same y item last same ∙ ties) refl
 
-    held : (b : Bool) → found y (kept_from item items) ≡ found y (item ∷ items)
-        → first_of (cond b (last ∷ filter (tied y) (kept_from item items)) (filter (tied y) (kept_from item items))) ≡ first_of (cond b (last ∷ filter (tied y) (item ∷ items)) (filter (tied y) (item ∷ items)))
+    held : (b : Bool) → found y (dedup_from same_place item items) ≡ found y (item ∷ items)
+        → first_of (cond b (last ∷ filter (tied y) (dedup_from same_place item items)) (filter (tied y) (dedup_from same_place item items))) ≡ first_of (cond b (last ∷ filter (tied y) (item ∷ items)) (filter (tied y) (item ∷ items)))
     held true rest = refl
     held false rest = rest
 
-    by : (b : Bool) → same_place item last ≡ b → found y (kept_from last items) ≡ found y (last ∷ items) → found y (kept_from item items) ≡ found y (item ∷ items)
-        → found y (if b then kept_from last items else last ∷ kept_from item items) ≡ found y (last ∷ item ∷ items)
+    by : (b : Bool) → same_place item last ≡ b → found y (dedup_from same_place last items) ≡ found y (last ∷ items) → found y (dedup_from same_place item items) ≡ found y (item ∷ items)
+        → found y (if b then dedup_from same_place last items else last ∷ dedup_from same_place item items) ≡ found y (last ∷ item ∷ items)
     by true same here rest = here ∙ skipped (tied y last) refl same
     by false same here rest = held (tied y last) rest
 
@@ -229,7 +206,7 @@ stays_from (item ∷ next ∷ others) sorted =
     by rest here other (inr later) = items_rank.chain other next item (rest.0 other later) here
 
 -- what is kept of sorted items is sorted, each version and key once
-kept_sorted : (last : Item) (items : List Item) → Stays (last ∷ items) → IsSorted (kept_from last items)
+kept_sorted : (last : Item) (items : List Item) → Stays (last ∷ items) → IsSorted (dedup_from same_place last items)
 kept_sorted last [] stays = ((λ other none. absurd none), tt)
 kept_sorted last (item ∷ items) stays = by (same_place item last) refl (kept_sorted last items ((λ other later. stays.0 other (inr later)), stays.1.1)) (kept_sorted item items stays.1)
   where
@@ -237,32 +214,32 @@ kept_sorted last (item ∷ items) stays = by (same_place item last) refl (kept_s
     behind before other (inl is) = ap (precedes last) is ∙ before
     behind before other (inr later) = before_then_not last item other before (stays.1.0 other later)
 
-    by : (b : Bool) → same_place item last ≡ b → IsSorted (kept_from last items) → IsSorted (kept_from item items) → IsSorted (if b then kept_from last items else last ∷ kept_from item items)
+    by : (b : Bool) → same_place item last ≡ b → IsSorted (dedup_from same_place last items) → IsSorted (dedup_from same_place item items) → IsSorted (if b then dedup_from same_place last items else last ∷ dedup_from same_place item items)
     by true same here rest = here
     by false same here rest =
         let before : precedes last item ≡ true = else_after item last same (stays.0 item (inl refl)) in
         ((λ other among. behind before other (kept_comes item items other among)), rest)
 
-once_sorted : (items : List Item) → Stays items → IsSorted (once items)
-once_sorted [] stays = tt
-once_sorted (item ∷ items) stays = subst IsSorted (sym (once_is [] item items)) (kept_sorted item items stays)
+all_kept_sorted : (items : List Item) → Stays items → IsSorted (dedup same_place items)
+all_kept_sorted [] stays = tt
+all_kept_sorted (item ∷ items) stays = kept_sorted item items stays
 
-once_found : (y : Item) (items : List Item) → found y (once items) ≡ found y items
-once_found y [] = refl
-once_found y (item ∷ items) = ap (found y) (once_is [] item items) ∙ kept_found y item items
+all_kept_found : (y : Item) (items : List Item) → found y (dedup same_place items) ≡ found y items
+all_kept_found y [] = refl
+all_kept_found y (item ∷ items) = kept_found y item items
 
 -- sorted items, of which those of one version and key stay in their order, without repeats: the union
-pub once_union : (items sorted : List Item) → IsSortedBy precedes sorted → IsStableBy precedes items sorted → once sorted ≡ union items
-once_union items sorted up stable =
-    sorted_same (once sorted) (union items) here there
-    (λ y among. found_among y y (union items) (sym (same y) ∙ found_itself y (once sorted) here among))
-    (λ y among. found_among y y (once sorted) (same y ∙ found_itself y (union items) there among))
+pub dedup_union : (items sorted : List Item) → IsSortedBy precedes sorted → IsStableBy precedes items sorted → dedup same_place sorted ≡ union items
+dedup_union items sorted up stable =
+    sorted_same (dedup same_place sorted) (union items) here there
+    (λ y among. found_among y y (union items) (sym (same y) ∙ found_itself y (dedup same_place sorted) here among))
+    (λ y among. found_among y y (dedup same_place sorted) (same y ∙ found_itself y (union items) there among))
   where
-    here : IsSorted (once sorted)
-    here = once_sorted sorted (stays_from sorted up)
+    here : IsSorted (dedup same_place sorted)
+    here = all_kept_sorted sorted (stays_from sorted up)
 
     there : IsSorted (union items)
     there = all_added_sorted items [] tt
 
-    same : (y : Item) → found y (once sorted) ≡ found y (union items)
-    same y = once_found y sorted ∙ ap first_of (stable y) ∙ sym (found_all_added y items [] tt)
+    same : (y : Item) → found y (dedup same_place sorted) ≡ found y (union items)
+    same y = all_kept_found y sorted ∙ ap first_of (stable y) ∙ sym (found_all_added y items [] tt)

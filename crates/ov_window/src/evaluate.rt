@@ -10,7 +10,7 @@ use std::alloc::Global;
 pub fn eval_all(alloc: Global, plan: &Plan) -> Result<Vec<Value>, Memory>
     ensures { IfOk result (λ values. values.items ≡ values_of plan.now) }
 {
-    let mut values = Vec::new(alloc);
+    let mut values = Vec::with_capacity(alloc, plan.tasks().len())?;
     let mut inputs = Vec::new(alloc);
     for task in plan.tasks() {
         inputs.clear();

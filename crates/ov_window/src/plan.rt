@@ -100,6 +100,7 @@ fn planned(
     let items = united(items)?;
     let mut tasks = Vec::with_capacity(alloc, items.len())?;
     let mut places = VersionLists::new(alloc);
+    places.reserve(items.len())?;
     for item in items {
         add_task(alloc, item, from, base, &mut tasks, &mut places)?;
     }

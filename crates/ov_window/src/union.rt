@@ -3,7 +3,6 @@ ghost use Rattle.std.specs.Prelude.{◌≡◌, IfOk};
 ghost use Rattle.std.specs.Cmp.Lexicographic.{slice_cmp};
 ghost use Rattle.std.specs.Ordering.{nat_cmp, ordering_then};
 ghost use Rattle.ov_functor.specs.Unions as unions;
-ghost use Rattle.ov_window.specs.Once as spec;
 
 use ov_base::Memory;
 use ov_functor::Item;
@@ -13,9 +12,10 @@ use std::cmp::Ordering;
 pub fn united(items: Vec<Item>) -> Result<Vec<Item>, Memory>
     ensures { IfOk result (λ v. v.items ≡ unions.union items.items) }
 {
-    let mut sorted = items;
-    sorted.sort_by(|left, right| compared(left, right))?;
-    once(sorted)
+    let mut all = items;
+    all.sort_by(|left, right| compared(left, right))?;
+    all.dedup_by(|item, kept| is_same_place(item, kept));
+    Ok(all)
 }
 
 /// How two items compare by version, and of one version by key.
@@ -26,28 +26,6 @@ fn compared(left: &Item, right: &Item) -> Ordering
         Ordering::Less => Ordering::Less,
         Ordering::Equal => left.key.cmp(&right.key),
         Ordering::Greater => Ordering::Greater,
-    }
-}
-
-/// Each of the items that does not repeat the last kept one.
-fn once(items: Vec<Item>) -> Result<Vec<Item>, Memory>
-    ensures { IfOk result (λ v. v.items ≡ spec.once items.items) }
-{
-    let mut kept = Vec::with_capacity(*items.allocator(), items.len())?;
-    for item in items {
-        if !repeats_last(kept.as_slice(), &item) {
-            kept.push(item)?;
-        }
-    }
-    Ok(kept)
-}
-
-fn repeats_last(kept: &[Item], item: &Item) -> bool
-    ensures { result ≡ spec.repeats_last kept.now item.now }
-{
-    match kept.last() {
-        Some(last) => is_same_place(item, last),
-        None => false,
     }
 }
 

@@ -14,7 +14,7 @@ loop-item-init c =
     let gives = c.into_iter-item-iterator.ensures.into_iter_gives in
     record {
       count = gives.1 ∙ c.in_ok-items.items.ok.0 ∙ ap length (sym gives.0);
-      partway = rw (gives.0, c.in_ok-items.ensures, c.in_ok-tasks.ensures.items, c.new-places.ensures) (begun (map_below c.args.from c.args.base.now.entries) (union c.args.items.items));
+      partway = rw (gives.0, c.in_ok-items.ensures, c.in_ok-tasks.ensures.items, c.in_ok-reserve.ensures.entries, c.new-places.ensures) (begun (map_below c.args.from c.args.base.now.entries) (union c.args.items.items));
     }
 
 pub loop-item-preserved : goal.loop-item-preserved
