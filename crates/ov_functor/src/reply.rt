@@ -46,12 +46,7 @@ impl Reply {
     }
 }
 
-fn print_reply(
-    word: &[u8],
-    mark: u64,
-    list: &[Shown],
-    text: &mut Vec<u8>,
-) -> Result<(), Memory>
+fn print_reply(word: &[u8], mark: u64, list: &[Shown], text: &mut Vec<u8>) -> Result<(), Memory>
     ensures { Printed result text.old.items text.new.items (reply_by word.now mark list.now) }
 {
     text.extend_from_slice(word)?;

@@ -179,24 +179,14 @@ fn print_on(word: &[u8], key: &Key, text: &mut Vec<u8>) -> Result<(), Memory>
     print_key(key, text)
 }
 
-fn print_with(
-    word: &[u8],
-    key: &Key,
-    amount: &Amount,
-    text: &mut Vec<u8>,
-) -> Result<(), Memory>
+fn print_with(word: &[u8], key: &Key, amount: &Amount, text: &mut Vec<u8>) -> Result<(), Memory>
     ensures { Printed result text.old.items text.new.items (joined 32 (word.now ∷ key.now ∷ amount_text amount.now ∷ [])) }
 {
     text.extend_from_slice(word)?;
     print_valued(key, amount, text)
 }
 
-fn print_move(
-    from: &Key,
-    to: &Key,
-    amount: &Amount,
-    text: &mut Vec<u8>,
-) -> Result<(), Memory>
+fn print_move(from: &Key, to: &Key, amount: &Amount, text: &mut Vec<u8>) -> Result<(), Memory>
     ensures { Printed result text.old.items text.new.items (part_text (Part.Move from.now to.now amount.now)) }
 {
     print_on(b"move", from, text)?;

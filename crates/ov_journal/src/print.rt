@@ -140,12 +140,7 @@ fn print_settler_kind(kind: &Kind, text: &mut Vec<u8>) -> Result<(), Memory>
 
 // ---- kinds
 
-fn print_began(
-    session: u32,
-    seq: u32,
-    start: &Start,
-    text: &mut Vec<u8>,
-) -> Result<(), Memory>
+fn print_began(session: u32, seq: u32, start: &Start, text: &mut Vec<u8>) -> Result<(), Memory>
     ensures { OnOk result (text.new.items ≡ text.old.items ++ kind_text (Kind.Began session seq start.now)) }
 {
     text.extend_from_slice(b"began")?;
@@ -166,11 +161,7 @@ fn print_start(start: &Start, text: &mut Vec<u8>) -> Result<(), Memory>
     }
 }
 
-fn print_draw(
-    version: Version,
-    parts: &[Part],
-    text: &mut Vec<u8>,
-) -> Result<(), Memory>
+fn print_draw(version: Version, parts: &[Part], text: &mut Vec<u8>) -> Result<(), Memory>
     ensures { OnOk result (text.new.items ≡ text.old.items ++ start_text (Start.Draw version parts.now)) }
 {
     text.extend_from_slice(b"do ")?;
@@ -218,11 +209,7 @@ fn print_acked(
     print_node(centre, part, text)
 }
 
-fn print_published(
-    time: u64,
-    vector: &Vector,
-    text: &mut Vec<u8>,
-) -> Result<(), Memory>
+fn print_published(time: u64, vector: &Vector, text: &mut Vec<u8>) -> Result<(), Memory>
     ensures { OnOk result (text.new.items ≡ text.old.items ++ kind_text (Kind.Published time vector.now)) }
 {
     text.extend_from_slice(b"published ")?;
@@ -230,11 +217,7 @@ fn print_published(
     print_vector(vector.listed(), text)
 }
 
-fn print_heard(
-    place: &Place,
-    vector: &Vector,
-    text: &mut Vec<u8>,
-) -> Result<(), Memory>
+fn print_heard(place: &Place, vector: &Vector, text: &mut Vec<u8>) -> Result<(), Memory>
     ensures { OnOk result (text.new.items ≡ text.old.items ++ kind_text (Kind.Heard place.now vector.now)) }
 {
     print_placed(b"heard", place, text)?;
@@ -333,12 +316,7 @@ fn print_replied(
     print_reply(reply, text)
 }
 
-fn print_told(
-    place: &Place,
-    session: u32,
-    seq: u32,
-    text: &mut Vec<u8>,
-) -> Result<(), Memory>
+fn print_told(place: &Place, session: u32, seq: u32, text: &mut Vec<u8>) -> Result<(), Memory>
     ensures { OnOk result (text.new.items ≡ text.old.items ++ kind_text (Kind.Told place.now session seq)) }
 {
     print_placed(b"told", place, text)?;

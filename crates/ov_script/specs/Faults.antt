@@ -1,5 +1,5 @@
 -- The faults of a line behind others: the tests of its kind in their order.
-use Rattle.std.specs.Prelude.{ℕ, Bool, not, nat_le, nat_lt, List, [], ◌∷◌, length, Option, Some, None, is_some, if◌then◌else◌}
+use Rattle.std.specs.Prelude.{ℕ, Bool, not, nat_le, nat_lt, List, length, Option, Some, None, is_some, if◌then◌else◌}
 use Rattle.ov_base.specs.Key.{repeats}
 use Rattle.ov_functor.specs.declared.error.TxnError.{TxnError}
 use Rattle.ov_functor.specs.declared.error.TxnError.TheVariants as txn

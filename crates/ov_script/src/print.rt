@@ -13,11 +13,7 @@ use ov_session::SessionName;
 use ov_topology::print_gate;
 
 /// Writes the line of a session at the end, without its line feed. On an error a prefix of it was written.
-pub(crate) fn print_session(
-    name: &SessionName,
-    gate: u32,
-    text: &mut Vec<u8>,
-) -> Result<(), Memory>
+pub(crate) fn print_session(name: &SessionName, gate: u32, text: &mut Vec<u8>) -> Result<(), Memory>
     requires { IsGate gate }
     ensures { Printed result text.old.items text.new.items (line_text (ScriptLine.Session name.now gate)) }
 {
@@ -74,11 +70,7 @@ fn print_kind(session: &SessionName, kind: &[u8], text: &mut Vec<u8>) -> Result<
 }
 
 /// Writes the name of a session and the number of a command.
-fn print_awaited(
-    session: &SessionName,
-    seq: u32,
-    text: &mut Vec<u8>,
-) -> Result<(), Memory>
+fn print_awaited(session: &SessionName, seq: u32, text: &mut Vec<u8>) -> Result<(), Memory>
     ensures { Printed result text.old.items text.new.items (session.now ++ 32 ∷ decimal seq) }
 {
     text.extend_from_slice(session.bytes())?;

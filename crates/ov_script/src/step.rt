@@ -134,11 +134,7 @@ fn stop_read(rest: &[u8]) -> Option<Step>
     Some(Step::Stop { actor })
 }
 
-fn print_begin(
-    session: &SessionName,
-    clock: u64,
-    text: &mut Vec<u8>,
-) -> Result<(), Memory>
+fn print_begin(session: &SessionName, clock: u64, text: &mut Vec<u8>) -> Result<(), Memory>
     ensures { Printed result text.old.items text.new.items (codes "begin " ++ session.now ++ 32 ∷ decimal clock) }
 {
     text.extend_from_slice(b"begin ")?;

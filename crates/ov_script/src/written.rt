@@ -36,11 +36,7 @@ pub(crate) fn print_lines(
     Ok(())
 }
 
-fn print_ended(
-    roster: &Roster,
-    written: &Written,
-    text: &mut Vec<u8>,
-) -> Result<(), Memory>
+fn print_ended(roster: &Roster, written: &Written, text: &mut Vec<u8>) -> Result<(), Memory>
     requires { IsShown roster.now written.now }
     ensures { Printed result text.old.items text.new.items (kept_text roster.now written.now) }
 {
@@ -50,11 +46,7 @@ fn print_ended(
 }
 
 /// Writes a line, without its line feed.
-fn print_line(
-    roster: &Roster,
-    written: &Written,
-    text: &mut Vec<u8>,
-) -> Result<(), Memory>
+fn print_line(roster: &Roster, written: &Written, text: &mut Vec<u8>) -> Result<(), Memory>
     requires { IsShown roster.now written.now }
     ensures { Printed result text.old.items text.new.items (line_text (line_at roster.now written.now)) }
 {
@@ -80,11 +72,7 @@ fn print_line(
     }
 }
 
-fn print_command(
-    session: &SessionName,
-    command: &Command,
-    text: &mut Vec<u8>,
-) -> Result<(), Memory>
+fn print_command(session: &SessionName, command: &Command, text: &mut Vec<u8>) -> Result<(), Memory>
     ensures { Printed result text.old.items text.new.items (line_text (command_line session.now command.now)) }
 {
     match command {

@@ -94,9 +94,7 @@ fn of_first(alloc: Global, number: u32) -> Result<Option<Letter>, Fail> {
 fn written(alloc: Global) -> Result<Vec<u8>, Fail> {
     let mut text = Vec::new(alloc);
     for number in 1..4u32 {
-        print_write(&of_first(alloc, number)?.ok_or("a letter")?,
-            &mut text,
-        )?;
+        print_write(&of_first(alloc, number)?.ok_or("a letter")?, &mut text)?;
         text.push(b',')?;
     }
     Ok(text)

@@ -1,4 +1,4 @@
-use Rattle.std.proofs.Common.{◌≡◌, ◌+◌, ◌≤◌, length, sym, ◌∙◌, arith, refl, subst}
+use Rattle.std.proofs.Common.{◌+◌, sym, ◌∙◌, arith, refl, subst}
 use Rattle.ov_base.specs.Lines.{IsRead, read_from}
 use Rattle.ov_base.proofs.Splits.{cut_shorter}
 use Rattle.ov_base.proofs.LineTexts.{pieces_in, read_last, read_more, read_next, refuses_then}
