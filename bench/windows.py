@@ -13,7 +13,7 @@ import sys
 HERE = os.path.dirname(os.path.abspath(__file__))
 CRATE = os.path.join(os.path.dirname(HERE), "crates", "ov_bench")
 PROGRAM = os.path.join(CRATE, "out", "ov_bench")
-RUNS = 3
+RUNS = 5
 MOST = 20
 
 
