@@ -1,8 +1,8 @@
 -- Windows, what settlers gather of them, and lists of items by version and then key, each version and key once.
-use Rattle.std.specs.Prelude.{◌≡◌, ℕ, ◌<◌, true, Some, List, [], ◌∷◌, ◌++◌, slice_get, ◌↔◌}
+use Rattle.std.specs.Prelude.{◌≡◌, ℕ, ◌<◌, Some, List, ◌++◌, slice_get, ◌↔◌}
 use Rattle.ov_functor.specs.Windows.{Among}
 use Rattle.ov_functor.specs.declared.item.Item.{Item}
-use Rattle.ov_functor.specs.Unions.{precedes}
+use Rattle.ov_functor.specs.Unions.{IsSorted}
 use Rattle.ov_history.specs.Past.{History}
 use Rattle.ov_history.specs.Settlers.{Round, open_round, IsEnough, harvest}
 use Rattle.ov_history.specs.May.{Setting, Lawful}
