@@ -22,7 +22,7 @@ pub fn outcome(alloc: Global, kind: &str, case: &Case) -> Result<Vec<u8>, CaseFa
         ("topology", None) => print_topology(alloc, text.as_slice(), &mut printed)?,
         ("schedule", None) => print_schedule(alloc, text.as_slice(), &mut printed)?,
         ("journal", None) => print_journal(alloc, text.as_slice(), &mut printed)?,
-        ("words", None) => print_words(text.as_slice(), &mut printed)?,
+        ("words", None) => print_words(alloc, text.as_slice(), &mut printed)?,
         (_, Some(gateways)) => match gateways.parse::<u32>() {
             Ok(gateways) => print_script(alloc, text.as_slice(), gateways, &mut printed)?,
             Err(_) => return Err(case.head_fault()),
@@ -48,22 +48,22 @@ fn print_topology(alloc: Global, text: &[u8], printed: &mut Vec<u8>) -> Result<(
 }
 
 /// Prints the five lines of a topology.
-fn print_values(alloc: Global, topology: &Topology, printed: &mut Vec<u8>) -> Result<(), Memory> {
-    print_value(alloc, "centres", topology.centres(), printed)?;
-    print_value(alloc, "partitions", topology.partitions(), printed)?;
-    print_gateways(alloc, topology, printed)?;
-    print_value(alloc, "write", topology.write(), printed)?;
-    print_value(alloc, "read", topology.read_quorum(), printed)
+fn print_values(topology: &Topology, printed: &mut Vec<u8>) -> Result<(), Memory> {
+    print_value("centres", topology.centres(), printed)?;
+    print_value("partitions", topology.partitions(), printed)?;
+    print_gateways(topology, printed)?;
+    print_value("write", topology.write(), printed)?;
+    print_value("read", topology.read_quorum(), printed)
 }
 
-fn print_value(alloc: Global, name: &str, value: u32, printed: &mut Vec<u8>) -> Result<(), Memory> {
+fn print_value(name: &str, value: u32, printed: &mut Vec<u8>) -> Result<(), Memory> {
     printed.extend_from_slice(name.as_bytes())?;
     printed.extend_from_slice(b" = ")?;
     print_number(u64::from(value), printed)?;
     end_line(printed)
 }
 
-fn print_gateways(alloc: Global, topology: &Topology, printed: &mut Vec<u8>) -> Result<(), Memory> {
+fn print_gateways(topology: &Topology, printed: &mut Vec<u8>) -> Result<(), Memory> {
     printed.extend_from_slice(b"gateways = [")?;
     for gate in 0..topology.gateways() {
         if gate > 0 {
