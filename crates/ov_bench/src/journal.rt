@@ -11,7 +11,7 @@ use std::fs;
 
 /// A journal of about so many bytes: the lines of the file, over and over.
 fn text_of(rt: &HostRuntime, task: &Task) -> Result<Vec<u8>> {
-    let name = task.files.first().context("FILE")?;
+    let name = task.words.first().context("FILE")?;
     let text = fs::read_to_string(rt, name.as_str())?;
     let (head, lines) = text.as_str().split_once('\n').context("a journal")?;
     let mut bytes = Vec::from_slice(rt.alloc(), head.as_bytes())?;

@@ -1,14 +1,26 @@
 //! Does a piece of work many times over, for measures that no command reaches: nothing stands on this program, and
 //! the command does not ship with it.
 //!
-//! `ov_bench WORD SIZE TIMES FILE..` makes the input of that SIZE once, from the files or by a linear loop, does the
+//! `ov_bench WORD SIZE TIMES FURTHER..` makes the input of that SIZE once, from files or by a linear loop, does the
 //! work of WORD over it TIMES over, and prints what the last time gave. So the cost of the work is that of a run less
-//! that of a run with TIMES 0, divided by TIMES; the scripts in `bench/` do this.
+//! that of a run with TIMES 0, divided by TIMES; the scripts in `bench/` do this. The words and what stands behind TIMES:
+//!
+//! - `read_journal`, `write_journal` FILE: a journal of about SIZE bytes, from the lines of the FILE.
+//! - `plan_window`, `plan_keys`: a window of SIZE items, on 8 keys or on half as many keys as items.
+//! - `fill_lists` ORDER KEYS: SIZE insertions into version lists, in that order, on so many keys.
+//! - `keep_lists`, `keep_vector`: SIZE functors kept on 8 keys, for the memory that they take.
+//! - `compare_lists`: SIZE calls on version lists and on plain code, where TIMES says for how many sequences of calls. It
+//!   ends with status 1 at the first difference.
 //!
 //! A further word is an arm of [`work`] with a module of its own.
 #![tactic(auto)]
 
+mod compare;
 mod journal;
+mod keep;
+mod lists;
+mod sorted;
+mod sum;
 mod task;
 mod window;
 
@@ -18,13 +30,13 @@ use task::Task;
 
 fn main(rt: HostRuntime) -> Result<()> {
     let words = env::args(&rt)?.skip(1).collect::<Vec<String>>(rt.alloc())?;
-    let [word, size, times, files @ ..] = words.as_slice() else {
-        bail!("usage: ov_bench WORD SIZE TIMES FILE..");
+    let [word, size, times, further @ ..] = words.as_slice() else {
+        bail!("usage: ov_bench WORD SIZE TIMES FURTHER..");
     };
     let task = Task {
         size: size.as_str().parse::<usize>().context("SIZE")?,
         times: times.as_str().parse::<u64>().context("TIMES")?,
-        files,
+        words: further,
     };
     let count = work(&rt, word.as_str(), &task)?;
     println!(rt; "{word} {count}")?;
@@ -38,6 +50,10 @@ fn work(rt: &HostRuntime, word: &str, task: &Task) -> Result<usize> {
         "write_journal" => journal::write(rt, task),
         "plan_window" => window::plan(rt, task, 8),
         "plan_keys" => window::plan(rt, task, task.size / 2),
+        "fill_lists" => lists::fill(rt, task),
+        "keep_lists" => keep::in_lists(rt, task),
+        "keep_vector" => keep::in_vector(rt, task),
+        "compare_lists" => compare::lists(rt, task),
         _ => bail!("no such word: {word}"),
     }
 }

@@ -1,8 +1,9 @@
 //! Gathering a window, planning it and computing its values.
+use crate::sum::{key_of, sum_on};
 use crate::task::Task;
 use anyhow::{Context, Result, bail};
-use ov_base::{Amount, Key, Value, Version};
-use ov_functor::{Effect, Functor, Item};
+use ov_base::{Value, Version};
+use ov_functor::Item;
 use ov_lists::VersionLists;
 use ov_topology::{Mode, Topology};
 use ov_window::{Harvest, Plan, Round, eval_all};
@@ -58,13 +59,10 @@ fn items_of(rt: &HostRuntime, size: usize, keys: usize) -> Result<Vec<Item>> {
 
 /// The sum at a place.
 fn item_at(rt: &HostRuntime, place: usize, keys: usize) -> Result<Item> {
-    let name = format!(in rt.alloc(); "k{}", place.checked_rem(keys).unwrap_or(0))?;
-    let key = Key::from_bytes(name.as_bytes()).context("a key")?;
-    let amount = Amount::new(1).context("an amount")?;
-    let functor = Functor::new(key, Effect::Add(amount), Vec::new(rt.alloc()));
+    let key = key_of(rt, place.checked_rem(keys).unwrap_or(0) as u64)?;
     Ok(Item {
         version: Version::new(place as u64, 0).context("a version")?,
         key,
-        functor: functor.ok().context("a functor")?,
+        functor: sum_on(rt, key)?,
     })
 }
