@@ -23,7 +23,7 @@ use Rattle.ov_history.specs.Settlers as settlers
 use Rattle.ov_history.specs.May.{Setting}
 use Rattle.ov_history.specs.Cores.{Runs}
 use Rattle.ov_window.specs.Evaluation.{values_of}
-use Rattle.ov_window.specs.Harvest.{Gathered, IsWhole, has_answered}
+use Rattle.ov_window.specs.Harvest.{Gathered, IsMarked, IsWhole, has_answered}
 use Rattle.ov_window.specs.Plan.{plan_over}
 use Rattle.ov_window.specs.declared.plan.Task.{Task}
 
@@ -49,16 +49,17 @@ abbrev pub valued_of : Entry Value → Valued
 valued_of entry = record { version = entry.version; key = entry.key; value = entry.item }
 
 -- What a core gathered in its open round is what the settler took in it, the items lie in the window of the round, and the window
--- begins where the settler has settled.
+-- begins where the settler has settled. Each node has its mark.
 pub record Gathers (t : Shape) (h : History) (s : SettlerState) (harvest : Gathered) : Type 0 where
   pub topology_is : harvest.topology ≡ t
   pub settler_is : harvest.round.settler ≡ s.centre
   pub from_is : harvest.round.from ≡ s.settled
+  pub marked : IsMarked harvest.topology harvest.answered
   pub answers_are : (c p : ℕ) → c < t.centres → p < t.partitions → has_answered harvest c p ≡ settlers.took s.centre s.rounds c p h
   pub items_are : union harvest.items ≡ settlers.harvest s.centre s.rounds h
   pub inside : AllByRecursion (λ (item : Item). is_inside harvest.round.from harvest.round.below item ≡ true) harvest.items
 
--- The core stands for a history after which the actor is as the core has it. Of the values it is said that the latest of each key below
+-- The core stands for a history after which the actor is as the core has it. No answer of a later round is taken. Of the values it is said that the latest of each key below
 -- each number is that of all that the settler settled, and that none is from the number on up to which it has settled.
 pub record IsSettler (t : Setting) (h : History) (actor : Actor) (s : SettlerState) : Type 0 where
   pub actor_is : actor ≡ Settler s.centre
@@ -70,6 +71,7 @@ pub record IsSettler (t : Setting) (h : History) (actor : Actor) (s : SettlerSta
   pub settled_is : s.settled ≡ settlers.settled s.centre h
   pub round_is : option_map (round_of s.rounds) s.harvest ≡ settlers.open_round s.centre h
   pub gathers : (harvest : Gathered) → s.harvest ≡ Some harvest → Gathers t.topology h s harvest
+  pub later : (n c p : ℕ) → s.rounds < n → settlers.took s.centre n c p h ≡ false
   pub values_are : (key : List ℕ) (below : ℕ) → latest key below (settlers.values_of s.centre h) ≡ option_map valued_of (latest_of key below s.values)
   pub under : AllByRecursion (λ (entry : Entry Value). entry.version < s.settled) s.values
 
