@@ -1,2 +1,4 @@
 pub mod Stands
 pub mod Calls
+pub mod Watermarks
+pub mod Asks

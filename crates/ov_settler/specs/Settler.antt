@@ -7,11 +7,13 @@ use Rattle.ov_functor.specs.Unions.{is_inside, union}
 use Rattle.ov_functor.specs.Values.{latest}
 use Rattle.ov_functor.specs.declared.item.Item.{Item}
 use Rattle.ov_functor.specs.declared.item.Valued.{Valued}
-use Rattle.ov_gossip.specs.Marks.{mark_at}
+use Rattle.ov_gossip.specs.Marks.{mark_at, least, low_of, full_of}
 use Rattle.ov_gossip.specs.declared.marks.Marks.{Marks}
 use Rattle.ov_topology.specs.Shape.{Shape, gates}
 use Rattle.ov_topology.specs.declared.actor.Actor.{Actor}
 use Rattle.ov_topology.specs.declared.actor.Actor.TheVariants.{Settler}
+use Rattle.ov_topology.specs.declared.mode.Mode.{Mode}
+use Rattle.ov_topology.specs.declared.mode.Mode.TheVariants.{Quorum, One}
 use Rattle.ov_lists.specs.Entries.{Entry, latest_of}
 use Rattle.ov_event.specs.declared.kind.Kind.{Kind}
 use Rattle.ov_event.specs.declared.kind.Kind.TheVariants as kinds
@@ -43,6 +45,11 @@ pub record SettlerState : Type 0 where
 -- the round of a harvest, which is the last that was opened
 abbrev pub round_of : ℕ → Gathered → settlers.Round
 round_of rounds harvest = record { number = rounds; mode = harvest.round.mode; from = harvest.round.from; below = harvest.round.below }
+
+-- up to where a round of this mode asks, by the marks of all gateways
+abbrev pub upper_of : List Marks → Mode → ℕ
+upper_of vector Quorum = least low_of vector
+upper_of vector One = least full_of vector
 
 -- the value that version lists keep at an entry
 abbrev pub valued_of : Entry Value → Valued

@@ -12,6 +12,7 @@ ghost use Rattle.ov_history.specs.Cores.{Steps};
 ghost use Rattle.ov_window.specs.Plan.{map_below, plan_over};
 ghost use Rattle.ov_settler.specs.Settler.{IsSettler};
 
+mod ask;
 mod hear;
 
 use ov_base::{Key, Memory, Value};
@@ -27,6 +28,7 @@ use std::marker::Model;
 /// round, its values, and whether it has stopped.
 #[derive(Drop)]
 pub struct SettlerCore {
+    alloc: Global,
     topology: Topology,
     centre: u32,
     vector: Vector,
@@ -52,6 +54,7 @@ impl SettlerCore {
         ensures { IfOk result (λ core. (t : Setting) → t.topology ≡ topology.now → IsSettler t [] (Settler centre) core) }
     {
         Ok(SettlerCore {
+            alloc,
             topology: topology.copy()?,
             centre,
             vector: Vector::new(topology.gateways()),
