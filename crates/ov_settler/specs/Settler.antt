@@ -1,5 +1,5 @@
 -- What a settler core is, which histories it stands for, and which entries its calls make.
-use Rattle.std.specs.Prelude.{◌≡◌, ℕ, ◌+◌, ◌<◌, Bool, true, false, Option, Some, None, List, length}
+use Rattle.std.specs.Prelude.{◌≡◌, ℕ, ◌<◌, Bool, true, false, Option, Some, None, List, length, if◌then◌else◌}
 use Rattle.std.specs.List.{AllByRecursion}
 use Rattle.std.specs.Option.{option_map}
 use Rattle.ov_base.specs.declared.value.Value.{Value}
@@ -25,7 +25,7 @@ use Rattle.ov_history.specs.Settlers as settlers
 use Rattle.ov_history.specs.May.{Setting}
 use Rattle.ov_history.specs.Cores.{Runs}
 use Rattle.ov_window.specs.Evaluation.{values_of}
-use Rattle.ov_window.specs.Harvest.{Gathered, IsMarked, IsWhole, has_answered}
+use Rattle.ov_window.specs.Harvest.{Gathered, IsMarked, IsWhole, has_answered, with_answer}
 use Rattle.ov_window.specs.Plan.{plan_over}
 use Rattle.ov_window.specs.declared.plan.Task.{Task}
 
@@ -41,6 +41,11 @@ pub record SettlerState : Type 0 where
   pub harvest : Option Gathered
   pub values : List (Entry Value)
   pub stopped : Bool
+
+-- the harvest of an open round is of the core's topology
+abbrev pub IsCore : Shape → Option Gathered → Type 0
+IsCore topology None = Unit {0}
+IsCore topology (Some harvest) = harvest.topology ≡ topology
 
 -- the round of a harvest, which is the last that was opened
 abbrev pub round_of : ℕ → Gathered → settlers.Round
@@ -99,6 +104,23 @@ IsSound s other = Unit {0}
 -- where a round is open and its harvest is whole, the plan is that of the round, and the values are those of the plan
 abbrev pub IsOwn : SettlerState → List Task → List Value → Type 0
 IsOwn s plan values = (harvest : Gathered) → s.harvest ≡ Some harvest → IsWhole harvest → (plan ≡ plan_over s.values harvest) × (values ≡ values_of plan)
+
+-- An answer of the node to this round of the settler is one to the core's open round, and the node is in the topology.
+pub record Awaits (s : SettlerState) (settler round centre part : ℕ) : Type 0 where
+  pub harvest : Gathered
+  pub open_is : s.harvest ≡ Some harvest
+  pub own : settler ≡ s.centre
+  pub current : round ≡ s.rounds
+  pub centre_in : centre < s.topology.centres
+  pub part_in : part < s.topology.partitions
+
+-- the harvest after an answer of a node, of which the first alone counts
+abbrev pub answered_by : ℕ → ℕ → List Item → Gathered → Gathered
+answered_by centre part items harvest = if has_answered harvest centre part then harvest else with_answer harvest centre part items
+
+-- the core after an answer of a node to its open round
+abbrev pub gathered_by : ℕ → ℕ → List Item → SettlerState → SettlerState
+gathered_by centre part items s = record s { harvest = option_map (answered_by centre part items) s.harvest }
 
 -- ---- the kinds of entries that the calls make
 

@@ -14,6 +14,7 @@ ghost use Rattle.ov_settler.specs.Settler.{IsSettler};
 
 mod ask;
 mod hear;
+mod take;
 
 use ov_base::{Key, Memory, Value};
 use ov_event::{Entry, Kind};
@@ -40,11 +41,13 @@ pub struct SettlerCore {
 }
 
 impl Model for SettlerCore {
-    ghost use Rattle.ov_settler.specs.Settler.{SettlerState};
+    ghost use Rattle.ov_settler.specs.Settler.{IsCore, SettlerState};
 
     ghost Value = { SettlerState };
 
     ghost view = { λ s. record { topology = s.topology; centre = s.centre; vector = s.vector; rounds = s.rounds; settled = s.settled; harvest = s.harvest; values = s.values.entries; stopped = s.stopped } };
+
+    ghost invariant = { λ s. IsCore s.topology s.harvest };
 }
 
 impl SettlerCore {
