@@ -76,14 +76,15 @@ opens s mode below = record { mode = mode; settler = s.centre; from = s.settled;
 abbrev pub with_round : SettlerState → Mode → ℕ → SettlerState
 with_round s mode below = record s { rounds = s.rounds + 1; harvest = Some (fresh s.topology (opens s mode below)) }
 
-ask_gathers : (t : Setting) (h : History) (actor : Actor) (s : SettlerState) (mode : Mode) (below : ℕ) → IsSettler t h actor s
+ask_gathers : (t : Setting) (h : History) (actor : Actor) (s : SettlerState) (mode : Mode) (below : ℕ) → IsSettler t h actor s → s.settled < below
     → Gathers t.topology (by_settler s.centre (Asked (s.rounds + 1) mode s.settled below) ∷ h) (with_round s mode below) (fresh s.topology (opens s mode below))
-ask_gathers t h actor s mode below is =
+ask_gathers t h actor s mode below is above =
     let kind = Asked (s.rounds + 1) mode s.settled below in
     let none : (c p : ℕ) → took s.centre (s.rounds + 1) c p h ≡ false = λ c p. is.later (s.rounds + 1) c p (omega arith) in record {
       topology_is = is.topology_is;
       settler_is = refl;
       from_is = refl;
+      some = above;
       marked = fresh_marked s.topology (opens s mode below);
       answers_are = λ c p inside within. fresh_answered s.topology (opens s mode below) c p (rw is.topology_is inside) (rw is.topology_is within) ∙ sym (took_more s.centre kind h (s.rounds + 1) c p ∙ none c p);
       items_are = sym (harvest_more s.centre kind h (s.rounds + 1) ∙ harvest_none s.centre (s.rounds + 1) h none);
@@ -127,7 +128,7 @@ ask_steps t h actor s mode below is running made held above =
       rounds_are = omega arith;
       settled_is = refl;
       round_is = refl;
-      gathers = λ one there. subst (Gathers t.topology (by_settler s.centre (Asked (s.rounds + 1) mode s.settled below) ∷ h) (with_round s mode below)) (same_Some _ _ there) (ask_gathers t h actor s mode below is);
+      gathers = λ one there. subst (Gathers t.topology (by_settler s.centre (Asked (s.rounds + 1) mode s.settled below) ∷ h) (with_round s mode below)) (same_Some _ _ there) (ask_gathers t h actor s mode below is above);
       later = λ n c p past. is.later n c p (omega (arith, past));
       values_are = is.values_are;
       under = is.under;

@@ -3,3 +3,5 @@ pub mod Calls
 pub mod Watermarks
 pub mod Asks
 pub mod Takes
+pub mod Values
+pub mod Settles

@@ -130,6 +130,7 @@ rests_gathers t h s vector stopped kind harvest rests is = record {
   topology_is = is.topology_is;
   settler_is = is.settler_is;
   from_is = is.from_is;
+  some = is.some;
   marked = is.marked;
   answers_are = λ c p inside within. is.answers_are c p inside within ∙ sym (took_more s.centre kind h s.rounds c p ∙ ap (λ b. b || settlers.took s.centre s.rounds c p h) (rests.takes s.rounds c p));
   items_are = is.items_are ∙ sym (harvest_more s.centre kind h s.rounds ∙ ap (λ items. all_added items (settlers.harvest s.centre s.rounds h)) (rests.brought s.centre s.rounds h));

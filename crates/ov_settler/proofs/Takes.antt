@@ -76,6 +76,7 @@ module _ (t : Setting) (h : History) (s : SettlerState) (place : Place) (c p : �
         topology_is = is.topology_is;
         settler_is = is.settler_is;
         from_is = is.from_is;
+        some = is.some;
         marked = is.marked;
         answers_are = λ d q inside within. is.answers_are d q inside within ∙ sym (took_more s.centre taken h s.rounds d q ∙ old told d q (cases_Bool (takes s.rounds d q taken)));
         items_are = is.items_are ∙ sym (harvest_more s.centre taken h s.rounds ∙ (rw (eq-eqb s.rounds s.rounds refl, told) refl));
@@ -98,6 +99,7 @@ module _ (t : Setting) (h : History) (s : SettlerState) (place : Place) (c p : �
         topology_is = is.topology_is;
         settler_is = is.settler_is;
         from_is = is.from_is;
+        some = is.some;
         marked = marked_more one.topology one.answered p c is.marked within';
         answers_are = λ d q inside within.
           answered_more one c p items is.marked inside' within' d q
@@ -121,7 +123,7 @@ round_same n c p items one = elim (cases_Bool (has_answered one c p)) [ inl yet 
 -- ---- the call
 
 -- an answer is to the open round exactly where its number is that of the core
-current_is : (t : Setting) (h : History) (actor : Actor) (s : SettlerState) (one : Gathered) → IsSettler t h actor s → s.harvest ≡ Some one → open_round s.centre h ≡ Some (round_of s.rounds one)
+pub current_is : (t : Setting) (h : History) (actor : Actor) (s : SettlerState) (one : Gathered) → IsSettler t h actor s → s.harvest ≡ Some one → open_round s.centre h ≡ Some (round_of s.rounds one)
 current_is t h actor s one is there = sym is.round_is ∙ ap (option_map (round_of s.rounds)) there
 
 pub take_none : (t : Setting) (h : History) (actor : Actor) (s : SettlerState) (place : Place) (settler round c p : ℕ) (items : List Item) → IsSettler t h actor s → letter t.topology h place ≡ Some (letters.Answer settler round c p items)

@@ -1,5 +1,5 @@
 -- What a settler core is, which histories it stands for, and which entries its calls make.
-use Rattle.std.specs.Prelude.{◌≡◌, ℕ, ◌<◌, Bool, true, false, Option, Some, None, List, length, if◌then◌else◌}
+use Rattle.std.specs.Prelude.{◌≡◌, ℕ, ◌<◌, Bool, true, false, Option, Some, None, List, [], ◌∷◌, length, if◌then◌else◌}
 use Rattle.std.specs.List.{AllByRecursion}
 use Rattle.std.specs.Option.{option_map}
 use Rattle.ov_base.specs.declared.value.Value.{Value}
@@ -14,7 +14,7 @@ use Rattle.ov_topology.specs.declared.actor.Actor.{Actor}
 use Rattle.ov_topology.specs.declared.actor.Actor.TheVariants.{Settler}
 use Rattle.ov_topology.specs.declared.mode.Mode.{Mode}
 use Rattle.ov_topology.specs.declared.mode.Mode.TheVariants.{Quorum, One}
-use Rattle.ov_lists.specs.Entries.{Entry, latest_of}
+use Rattle.ov_lists.specs.Entries.{Entry, has_pair, inserted, latest_of}
 use Rattle.ov_event.specs.declared.kind.Kind.{Kind}
 use Rattle.ov_event.specs.declared.kind.Kind.TheVariants as kinds
 use Rattle.ov_event.specs.declared.letter.Letter.{Letter}
@@ -60,12 +60,13 @@ upper_of vector One = least full_of vector
 abbrev pub valued_of : Entry Value → Valued
 valued_of entry = record { version = entry.version; key = entry.key; value = entry.item }
 
--- What a core gathered in its open round is what the settler took in it, the items lie in the window of the round, and the window
--- begins where the settler has settled. Each node has its mark.
+-- What a core gathered in its open round is what the settler took in it, the items lie in the window of the round, and the window,
+-- which is not empty, begins where the settler has settled. Each node has its mark.
 pub record Gathers (t : Shape) (h : History) (s : SettlerState) (harvest : Gathered) : Type 0 where
   pub topology_is : harvest.topology ≡ t
   pub settler_is : harvest.round.settler ≡ s.centre
   pub from_is : harvest.round.from ≡ s.settled
+  pub some : harvest.round.from < harvest.round.below
   pub marked : IsMarked harvest.topology harvest.answered
   pub answers_are : (c p : ℕ) → c < t.centres → p < t.partitions → has_answered harvest c p ≡ settlers.took s.centre s.rounds c p h
   pub items_are : union harvest.items ≡ settlers.harvest s.centre s.rounds h
@@ -121,6 +122,42 @@ answered_by centre part items harvest = if has_answered harvest centre part then
 -- the core after an answer of a node to its open round
 abbrev pub gathered_by : ℕ → ℕ → List Item → SettlerState → SettlerState
 gathered_by centre part items s = record s { harvest = option_map (answered_by centre part items) s.harvest }
+
+-- The core's open round can be settled, up to this number: the settler runs, and its harvest is whole.
+pub record Closes (s : SettlerState) (below : ℕ) : Type 0 where
+  pub harvest : Gathered
+  pub open_is : s.harvest ≡ Some harvest
+  pub running : s.stopped ≡ false
+  pub whole : IsWhole harvest
+  pub below_is : below ≡ harvest.round.below
+
+-- up to where the core's open round can be settled, or that it cannot
+abbrev pub IsDue : SettlerState → Option ℕ → Type 0
+IsDue s None = (below : ℕ) → Closes s below → ⊥
+IsDue s (Some below) = Closes s below
+
+-- the values of tasks, each at the version and key of its task
+abbrev pub valued_tasks : List Task → List Value → List Valued
+valued_tasks [] values = []
+valued_tasks (task ∷ tasks) [] = []
+valued_tasks (task ∷ tasks) (value ∷ values) = record { version = task.version; key = task.key; value = value } ∷ valued_tasks tasks values
+
+-- the entry that version lists keep of a value
+abbrev pub entry_of : Valued → Entry Value
+entry_of value = record { key = value.key; version = value.version; item = value.value }
+
+-- entries with a value, where there is none of its key and version
+abbrev pub with_value : Valued → List (Entry Value) → List (Entry Value)
+with_value value entries = if has_pair value.key value.version entries then entries else inserted (entry_of value) entries
+
+-- entries with these values, the last one first
+abbrev pub with_values : List Valued → List (Entry Value) → List (Entry Value)
+with_values [] entries = entries
+with_values (value ∷ values) entries = with_value value (with_values values entries)
+
+-- the core after it settled its open round up to a number, with these values
+abbrev pub settled_by : ℕ → List Valued → SettlerState → SettlerState
+settled_by below values s = record s { settled = below; harvest = None; values = with_values values s.values }
 
 -- ---- the kinds of entries that the calls make
 

@@ -14,6 +14,7 @@ ghost use Rattle.ov_settler.specs.Settler.{IsSettler};
 
 mod ask;
 mod hear;
+mod settle;
 mod take;
 
 use ov_base::{Key, Memory, Value};
