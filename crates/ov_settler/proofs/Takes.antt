@@ -126,28 +126,6 @@ round_same n c p items one = elim (cases_Bool (has_answered one c p)) [ inl yet 
 pub current_is : (t : Setting) (h : History) (actor : Actor) (s : SettlerState) (one : Gathered) → IsSettler t h actor s → s.harvest ≡ Some one → open_round s.centre h ≡ Some (round_of s.rounds one)
 current_is t h actor s one is there = sym is.round_is ∙ ap (option_map (round_of s.rounds)) there
 
-pub take_none : (t : Setting) (h : History) (actor : Actor) (s : SettlerState) (place : Place) (settler round c p : ℕ) (items : List Item) → IsSettler t h actor s → letter t.topology h place ≡ Some (letters.Answer settler round c p items)
-    → IsSound s (letters.Answer settler round c p items) → (s.stopped ≡ false → Awaits s settler round c p → ⊥) → Steps IsSettler is_taken t h actor (Take place) None s
-take_none t h actor s place settler round c p items is there sound not_so =
-    none_steps is_taken t h actor (Take place) s is (ap (kept is_taken) (gives_taken t h actor s.stopped place (letters.Answer settler round c p items) is.runs there)
-    ∙ (rw (is.actor_is, sym is.round_is) (by s.stopped refl (s.centre == settler) refl s.harvest refl)))
-  where
-    on_held : (o : Option Gathered) → s.harvest ≡ o → s.stopped ≡ false → (s.centre == settler) ≡ true → (b : Bool) → is_current (option_map (round_of s.rounds) o) round ≡ b
-        → kept is_taken (option_map (entry_of (Settler s.centre)) (if b then Some (Taken place round c p items) else None)) ≡ None
-    on_held o held running own false current = refl
-    on_held None held running own true current = absurd cc
-    on_held (Some one) held running own true current =
-        let same : s.rounds ≡ round = eqb-true s.rounds round current in
-        let mine : s.centre ≡ settler = eqb-true s.centre settler own in
-        let answer = sound (sym mine) (sym same) one held in
-        absurd (not_so running (record { harvest = one; open_is = held; own = sym mine; current = sym same; centre_in = answer.centre_in; part_in = answer.part_in }))
-
-    by : (a : Bool) → s.stopped ≡ a → (b : Bool) → (s.centre == settler) ≡ b → (o : Option Gathered) → s.harvest ≡ o
-        → kept is_taken (if a then None else (if b then option_map (entry_of (Settler s.centre)) (if is_current (option_map (round_of s.rounds) o) round then Some (Taken place round c p items) else None) else None)) ≡ None
-    by true ended b own o held = refl
-    by false running false own o held = refl
-    by false running true own o held = on_held o held running own (is_current (option_map (round_of s.rounds) o) round) refl
-
 pub take_steps : (t : Setting) (h : History) (actor : Actor) (s : SettlerState) (place : Place) (settler round c p : ℕ) (items : List Item) → IsSettler t h actor s → letter t.topology h place ≡ Some (letters.Answer settler round c p items)
     → IsSound s (letters.Answer settler round c p items) → s.stopped ≡ false → Awaits s settler round c p
     → Steps IsSettler is_taken t h actor (Take place) (Some (by_settler s.centre (Taken place round c p items))) (gathered_by c p items s)

@@ -22,14 +22,15 @@ impl SettlerCore {
         ensures none { IfOk result (λ answer. answer ≡ None → self.new ≡ self.old) }
         ensures err { OnErr result (self.new ≡ self.old) }
     {
+        let from = self.settled;
         let below = self.upper(mode);
-        if self.stopped || self.rounds == u64::MAX || below <= self.settled {
+        if self.stopped || self.rounds == u64::MAX || below <= from {
             return Ok(None);
         }
         let round = Round {
             mode,
             settler: self.centre,
-            from: self.settled,
+            from,
             below,
         };
         self.harvest = Some(Harvest::new(self.alloc, &self.topology, round)?);
@@ -37,7 +38,7 @@ impl SettlerCore {
         Ok(Some(self.entry(Kind::Asked {
             round: self.rounds,
             mode,
-            from: self.settled,
+            from,
             below,
         })))
     }
