@@ -8,5 +8,7 @@
 #![tactic(auto)]
 
 mod settler;
+#[cfg(test)]
+mod tests;
 
 pub use settler::SettlerCore;
