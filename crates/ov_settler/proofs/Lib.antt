@@ -5,3 +5,4 @@ pub mod Asks
 pub mod Takes
 pub mod Values
 pub mod Settles
+pub mod Others

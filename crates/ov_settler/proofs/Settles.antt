@@ -61,12 +61,19 @@ settler_known t s known = elim (cases_Bool (nat_lt s t.centres)) [
   | inr past ↦ let a = rw past at known in absurd cc
 ]
 
+-- ---- the map that is known
+
+value_same : (found : Option (Entry Value)) → item_or Absent found ≡ value_or Absent (option_map valued_of found)
+value_same None = refl
+value_same (Some entry) = refl
+
+-- what version lists have just below a number is what the settler knows there
+pub base_is : (t : Setting) (h : History) (actor : Actor) (s : SettlerState) (number : ℕ) → IsSettler t h actor s → map_below number s.values ≡ known_below s.centre h number
+base_is t h actor s number is = λ i key. (value_same (latest_of key number s.values) ∙ ap (value_or Absent) (sym (is.values_are key number))) i
+
 module _ (t : Setting) (h : History) (actor : Actor) (s : SettlerState) (one : Gathered) (is : IsSettler t h actor s) (there : s.harvest ≡ Some one) where
   gathers : Gathers t.topology h s one
   gathers = is.gathers one there
-
-  round : settlers.Round
-  round = round_of s.rounds one
 
   votes_are : (p : ℕ) → p < t.topology.partitions → passing (λ c. took s.centre s.rounds c p h) t.topology.centres ≡ marks_of one p
   votes_are p within =
@@ -92,16 +99,6 @@ module _ (t : Setting) (h : History) (actor : Actor) (s : SettlerState) (one : G
           let here = settler_known t.topology s.centre (subst (λ a. is_in t.topology a ≡ true) is.actor_is is.runs.known) in
           subst (λ centre. get_or (marks_of one p) centre false ≡ true) (sym gathers.settler_is) (gathers.answers_are s.centre p here within ∙ enough)
 
-  -- ---- the values
-
-  value_same : (found : Option (Entry Value)) → item_or Absent found ≡ value_or Absent (option_map valued_of found)
-  value_same None = refl
-  value_same (Some entry) = refl
-
-  -- the map that is known just below a number is that of the version lists
-  base_is : (number : ℕ) → map_below number s.values ≡ known_below s.centre h number
-  base_is number = λ i key. (value_same (latest_of key number s.values) ∙ ap (value_or Absent) (sym (is.values_are key number))) i
-
   -- the values of the plan of the core are those of the plan of the round
   pub values_is : (plan : List Task) (values : List Value) → plan ≡ plan_over s.values one → values ≡ values_of plan → valued_tasks plan values ≡ plan_values s.centre (round_of s.rounds one) h
   values_is plan values plan_is values_are =
@@ -110,7 +107,7 @@ module _ (t : Setting) (h : History) (actor : Actor) (s : SettlerState) (one : G
       let sorted : IsSorted items = all_added_sorted one.items [] tt in
       let right : values ≡ only (backwards (evaluated base (backwards items))) = values_are ∙ (ap values_of plan_is ∙ plan_right base items sorted) in
       (λ i. valued_tasks (plan_is i) (right i)) ∙ (plan_valued base items
-      ∙ (λ i. backwards (evaluated (base_is one.round.from i) (backwards (gathers.items_are i)))))
+      ∙ (λ i. backwards (evaluated (base_is t h actor s one.round.from is i) (backwards (gathers.items_are i)))))
 
   -- each item lies in the window of the round
   in_window : (item : Item) → Among item (union one.items) → (one.round.from ≤ item.version) × (item.version < one.round.below)

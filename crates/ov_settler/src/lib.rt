@@ -7,8 +7,10 @@
 //! Start with `specs/Settler.antt`: what a core is, and which histories it stands for.
 #![tactic(auto)]
 
+mod laws;
 mod settler;
 #[cfg(test)]
 mod tests;
 
+pub use laws::{settler_knows, settler_stays};
 pub use settler::SettlerCore;
