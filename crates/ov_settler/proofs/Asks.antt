@@ -1,26 +1,25 @@
 -- A settler that opens a round.
-use Rattle.std.proofs.Common.{◌≡◌, ℕ, ◌+◌, ◌<◌, ◌≤◌, ◌^◌, Bool, true, false, ◌==◌, ◌&&◌, ◌||◌, not, Some, None, [], ◌∷◌, length, get_or, refl, sym, ap, subst, ◌∙◌, arith, inl, inr}
+use Rattle.std.proofs.Common.{◌≡◌, ℕ, ◌+◌, ◌<◌, ◌^◌, Bool, true, false, ◌==◌, ◌&&◌, Some, None, [], ◌∷◌, length, get_or, refl, sym, ap, subst, ◌∙◌, arith, inl, inr}
 use Rattle.std.specs.Prelude.{if◌then◌else◌, replicate, nat_lt}
 use Rattle.std.specs.Option.{option_map}
-use Rattle.std.proofs.lemmas.Bool.{cases_Bool, cases_lt, both_ways, eq-eqb, lt-ltb, le-ltb, or_parts, and_parts}
+use Rattle.std.proofs.lemmas.Bool.{cases_Bool, both_ways, eq-eqb, lt-ltb, or_parts}
 use Rattle.std.proofs.lemmas.List.{get_or-replicate, length-replicate}
 use Rattle.std.proofs.lemmas.Option.{same_Some}
 use Rattle.ov_topology.specs.Shape.{Shape}
 use Rattle.ov_topology.specs.declared.actor.Actor.{Actor}
-use Rattle.ov_topology.specs.declared.actor.Actor.TheVariants.{Settler}
 use Rattle.ov_topology.specs.declared.mode.Mode.{Mode}
 use Rattle.ov_event.specs.Letters.{is_settler}
 use Rattle.ov_event.specs.declared.kind.Kind.{Kind}
 use Rattle.ov_event.specs.declared.kind.Kind.TheVariants.{Began, Stored, Acked, Published, Heard, Asked, Answered, Taken, Settled, Resulted, Replied, Told, Stopped}
 use Rattle.ov_history.specs.Past.{History}
-use Rattle.ov_history.specs.Settlers.{rounds, settled, takes, took, brought, harvest}
+use Rattle.ov_history.specs.Settlers.{takes, took, brought, harvest}
 use Rattle.ov_history.specs.Gives.{Ask, gives}
-use Rattle.ov_history.specs.May.{Setting, upper}
+use Rattle.ov_history.specs.May.{Setting}
 use Rattle.ov_history.specs.Cores.{kept, Steps}
-use Rattle.ov_window.specs.Harvest.{Gathered, IsMarked, fresh, has_answered}
+use Rattle.ov_window.specs.Harvest.{IsMarked, fresh, has_answered}
 use Rattle.ov_window.specs.declared.round.Round.{Round}
 use Rattle.ov_settler.specs.Settler.{SettlerState, Gathers, IsSettler, is_asked, upper_of}
-use Rattle.ov_settler.proofs.Stands.{by_settler, took_more, harvest_more, nothing_more, of_settler, Goes, some_steps, none_steps}
+use Rattle.ov_settler.proofs.Stands.{by_settler, took_more, harvest_more, nothing_more, some_steps, none_steps}
 use Rattle.ov_settler.proofs.Watermarks.{upper_is}
 
 -- ---- a round of which nothing is taken

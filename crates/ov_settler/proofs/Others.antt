@@ -1,5 +1,5 @@
 -- An entry of another actor leaves a core standing.
-use Rattle.std.proofs.Common.{◌≡◌, false, Some, ◌∷◌, sym, ap, ◌∙◌}
+use Rattle.std.proofs.Common.{◌≡◌, false, ◌∷◌, sym, ap, ◌∙◌}
 use Rattle.ov_functor.specs.Values.{latest}
 use Rattle.ov_topology.specs.declared.actor.Actor.{Actor}
 use Rattle.ov_topology.specs.declared.actor.Actor.TheVariants.{Settler}

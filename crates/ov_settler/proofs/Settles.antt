@@ -1,21 +1,18 @@
 -- A settler that settles its open round.
-use Rattle.std.proofs.Common.{◌≡◌, ℕ, zero, suc, ◌+◌, ◌<◌, ◌≤◌, Bool, true, false, ◌&&◌, Option, Some, None, List, [], ◌∷◌, ◌++◌, length, take, map, get_or, refl, sym, ap, subst, ◌∙◌, arith, inl, inr}
-use Rattle.std.specs.Prelude.{if◌then◌else◌, nat_le, nat_lt, is_some}
+use Rattle.std.proofs.Common.{◌≡◌, ℕ, zero, suc, ◌+◌, ◌<◌, ◌≤◌, Bool, true, false, Option, Some, None, List, [], ◌∷◌, ◌++◌, length, take, map, get_or, refl, sym, ap, subst, ◌∙◌, arith, inl, inr}
+use Rattle.std.specs.Prelude.{if◌then◌else◌, nat_le, nat_lt}
 use Rattle.std.specs.List.{AllByRecursion}
 use Rattle.std.specs.Option.{option_map}
-use Rattle.std.proofs.lemmas.Bool.{cases_Bool, both_ways, and_parts, leb-true, ltb-true}
+use Rattle.std.proofs.lemmas.Bool.{cases_Bool, and_parts, leb-true, ltb-true}
 use Rattle.std.proofs.lemmas.List.{take_all, take_more}
-use Rattle.std.proofs.lemmas.Option.{same_Some}
 use Rattle.ov_base.specs.declared.value.Value.{Value}
 use Rattle.ov_base.specs.declared.value.Value.TheVariants.{Absent}
-use Rattle.ov_functor.specs.Execution.{Map}
 use Rattle.ov_functor.specs.Unions.{IsSorted, backwards, is_inside, union}
-use Rattle.ov_functor.specs.Values.{evaluated, latest, value_or}
+use Rattle.ov_functor.specs.Values.{evaluated, value_or}
 use Rattle.ov_functor.specs.Windows.{Among}
 use Rattle.ov_functor.specs.declared.item.Item.{Item}
-use Rattle.ov_functor.specs.declared.item.Valued.{Valued}
 use Rattle.ov_functor.proofs.Unions.{all_added_comes, all_added_sorted}
-use Rattle.ov_topology.specs.Shape.{Shape, votes_of}
+use Rattle.ov_topology.specs.Shape.{Shape}
 use Rattle.ov_topology.specs.declared.actor.Actor.{Actor}
 use Rattle.ov_topology.specs.declared.actor.Actor.TheVariants.{Settler}
 use Rattle.ov_topology.specs.declared.mode.Mode.{Mode}
@@ -28,17 +25,17 @@ use Rattle.ov_history.specs.Counts.{all_below, passing}
 use Rattle.ov_history.specs.Settlers as settlers
 use Rattle.ov_history.specs.Settlers.{known_below, open_round, plan_values, took}
 use Rattle.ov_history.specs.Gives.{Settle, gives, is_enough, settles}
-use Rattle.ov_history.specs.May.{MaySettle, Setting}
+use Rattle.ov_history.specs.May.{Setting}
 use Rattle.ov_history.specs.Cores.{kept, Steps}
 use Rattle.ov_history.proofs.Given.{all_below_at, enough_is}
 use Rattle.ov_history.proofs.Giving.{may_settles}
 use Rattle.ov_window.specs.Evaluation.{only, values_of}
 use Rattle.ov_window.specs.Harvest as harvests
 use Rattle.ov_window.specs.Harvest.{Gathered, IsComplete, IsWhole, has_answered, marks_of}
-use Rattle.ov_window.specs.Plan.{item_or, map_below, plan_of, plan_over}
+use Rattle.ov_window.specs.Plan.{item_or, map_below, plan_over}
 use Rattle.ov_window.specs.declared.plan.Task.{Task}
 use Rattle.ov_window.proofs.PlanValues.{plan_right}
-use Rattle.ov_settler.specs.Settler.{SettlerState, Closes, Gathers, IsOwn, IsSettler, is_settled, round_of, settled_by, valued_of, valued_tasks, with_values}
+use Rattle.ov_settler.specs.Settler.{SettlerState, Closes, Gathers, IsOwn, IsSettler, is_settled, round_of, settled_by, valued_of, valued_tasks}
 use Rattle.ov_settler.proofs.Stands.{by_settler, nothing_more, Goes, some_steps, none_steps}
 use Rattle.ov_settler.proofs.Takes.{current_is}
 use Rattle.ov_settler.proofs.Values.{all_new, at_places, item_place, kept_all, plan_valued, settled_places, value_place, versions_kept}
@@ -137,12 +134,12 @@ module _ (t : Setting) (h : History) (actor : Actor) (s : SettlerState) (one : G
     gathers = λ it is_it. absurd cc;
     later = λ n c p past. is.later n c p past;
     values_are = kept_all (plan_values s.centre (round_of s.rounds one) h) (settlers.values_of s.centre h) s.values
-      (all_new one.round.from (plan_values s.centre (round_of s.rounds one) h) (union one.items) s.values places_are (all_added_sorted one.items [] tt) (λ item among. (in_window item among).0)
-      (subst (λ n. AllByRecursion (λ (entry : Entry Value). entry.version < n) s.values) (sym gathers.from_is) is.under))
-      is.values_are;
+        (all_new one.round.from (plan_values s.centre (round_of s.rounds one) h) (union one.items) s.values places_are (all_added_sorted one.items [] tt) (λ item among. (in_window item among).0)
+        (subst (λ n. AllByRecursion (λ (entry : Entry Value). entry.version < n) s.values) (sym gathers.from_is) is.under))
+        is.values_are;
     under = versions_kept (λ version. version < one.round.below) (plan_values s.centre (round_of s.rounds one) h) s.values
-      (at_places (λ place. place.0 < one.round.below) (plan_values s.centre (round_of s.rounds one) h) (union one.items) places_are (λ item among. (in_window item among).1))
-      (below_all s.values is.under);
+        (at_places (λ place. place.0 < one.round.below) (plan_values s.centre (round_of s.rounds one) h) (union one.items) places_are (λ item among. (in_window item among).1))
+        (below_all s.values is.under);
   }
     where
       below_all : (entries : List (Entry Value)) → AllByRecursion (λ (entry : Entry Value). entry.version < s.settled) entries → AllByRecursion (λ (entry : Entry Value). entry.version < one.round.below) entries

@@ -1,13 +1,12 @@
 -- The histories that a core stands for, after one more entry of its settler.
-use Rattle.std.proofs.Common.{◌≡◌, ℕ, ◌+◌, ◌<◌, max, Bool, true, false, ◌||◌, Option, Some, None, List, [], ◌∷◌, ◌++◌, length, refl, sym, ap, subst, ◌∙◌, arith}
+use Rattle.std.proofs.Common.{◌≡◌, ℕ, ◌+◌, ◌<◌, max, Bool, true, false, ◌||◌, Option, Some, None, List, [], ◌∷◌, ◌++◌, length, refl, sym, ap, ◌∙◌, arith}
 use Rattle.std.specs.Prelude.{if◌then◌else◌}
 use Rattle.std.specs.List.{AllByRecursion}
 use Rattle.std.specs.Option.{option_map}
 use Rattle.std.proofs.lemmas.Bool.{eq-eqb}
 use Rattle.ov_base.specs.declared.value.Value.{Value}
-use Rattle.ov_functor.specs.Unions.{union, all_added}
+use Rattle.ov_functor.specs.Unions.{all_added}
 use Rattle.ov_functor.specs.Values.{latest}
-use Rattle.ov_functor.specs.declared.item.Item.{Item}
 use Rattle.ov_gossip.specs.Marks.{mark_at, greater, no_marks, low_of, full_of, done_of}
 use Rattle.ov_gossip.specs.declared.marks.Marks.{Marks}
 use Rattle.ov_topology.specs.declared.actor.Actor.{Actor}

@@ -1,33 +1,29 @@
 -- A settler that takes an answer.
-use Rattle.std.proofs.Common.{◌≡◌, ◌≢◌, ℕ, ◌<◌, ◌⊎◌, Bool, true, false, ◌==◌, ◌&&◌, ◌||◌, not, Option, Some, None, List, [], ◌∷◌, ◌++◌, length, get_or, refl, sym, ap, subst, ◌∙◌, arith, inl, inr}
-use Rattle.std.specs.Prelude.{if◌then◌else◌, slice_set}
-use Rattle.std.specs.List.{AllByRecursion}
+use Rattle.std.proofs.Common.{◌≡◌, ◌≢◌, ℕ, ◌<◌, ◌⊎◌, Bool, true, false, ◌==◌, ◌&&◌, ◌||◌, Some, List, [], ◌∷◌, ◌++◌, get_or, refl, sym, ap, subst, ◌∙◌, arith, inl, inr}
+use Rattle.std.specs.Prelude.{slice_set}
 use Rattle.std.specs.Option.{option_map}
-use Rattle.std.proofs.lemmas.Bool.{cases_Bool, both_ways, eq-eqb, eqb-true, and_parts, false_from_ne_true}
+use Rattle.std.proofs.lemmas.Bool.{cases_Bool, eq-eqb, eqb-true, and_parts, false_from_ne_true}
 use Rattle.std.proofs.lemmas.Bool.Decides.{eqb_tells}
-use Rattle.std.proofs.lemmas.List.{get_or-set_same, get_or-set_other, length-set}
+use Rattle.std.proofs.lemmas.List.{get_or-set_same, get_or-set_other}
 use Rattle.std.proofs.lemmas.Option.{same_Some}
 use Rattle.ov_base.proofs.Lists.{all_appended}
-use Rattle.ov_functor.specs.Unions.{is_inside, added, all_added, union}
+use Rattle.ov_functor.specs.Unions.{is_inside, added, all_added}
 use Rattle.ov_functor.specs.declared.item.Item.{Item}
 use Rattle.ov_topology.specs.declared.actor.Actor.{Actor}
-use Rattle.ov_topology.specs.declared.actor.Actor.TheVariants.{Settler}
 use Rattle.ov_topology.specs.declared.place.Place.{Place}
 use Rattle.ov_event.specs.declared.kind.Kind.{Kind}
 use Rattle.ov_event.specs.declared.kind.Kind.TheVariants.{Taken}
 use Rattle.ov_event.specs.declared.letter.Letter.TheVariants as letters
 use Rattle.ov_history.specs.Past.{History}
 use Rattle.ov_history.specs.Letters.{letter}
-use Rattle.ov_history.specs.Settlers as settlers
-use Rattle.ov_history.specs.Settlers.{takes, took, brought, open_round}
-use Rattle.ov_history.specs.Gives.{Take, is_current, settler_takes, gives}
+use Rattle.ov_history.specs.Settlers.{takes, took, open_round}
+use Rattle.ov_history.specs.Gives.{Take, settler_takes}
 use Rattle.ov_history.specs.May.{Setting}
-use Rattle.ov_history.specs.Cores.{kept, Steps}
-use Rattle.ov_history.proofs.Cores.{gives_taken, entry_of}
+use Rattle.ov_history.specs.Cores.{Steps}
 use Rattle.ov_window.specs.Harvest.{Gathered, IsMarked, has_answered, marks_of, with_answer}
 use Rattle.ov_window.proofs.Marks.{marked_more}
 use Rattle.ov_settler.specs.Settler.{SettlerState, Awaits, Gathers, IsAnswer, IsSettler, IsSound, answered_by, gathered_by, is_taken, round_of}
-use Rattle.ov_settler.proofs.Stands.{by_settler, took_more, harvest_more, nothing_more, of_settler, Goes, some_steps, none_steps, letter_given}
+use Rattle.ov_settler.proofs.Stands.{by_settler, took_more, harvest_more, nothing_more, some_steps, letter_given}
 
 -- ---- items
 
@@ -102,9 +98,9 @@ module _ (t : Setting) (h : History) (s : SettlerState) (place : Place) (c p : �
         some = is.some;
         marked = marked_more one.topology one.answered p c is.marked within';
         answers_are = λ d q inside within.
-          answered_more one c p items is.marked inside' within' d q
-          ∙ ap (λ b. ((c == d) && (p == q)) || b) (is.answers_are d q inside within)
-          ∙ sym (took_more s.centre taken h s.rounds d q ∙ (rw (eq-eqb s.rounds s.rounds refl) refl));
+            answered_more one c p items is.marked inside' within' d q
+            ∙ ap (λ b. ((c == d) && (p == q)) || b) (is.answers_are d q inside within)
+            ∙ sym (took_more s.centre taken h s.rounds d q ∙ (rw (eq-eqb s.rounds s.rounds refl) refl));
         items_are = added_behind one.items items [] ∙ (ap (all_added items) is.items_are ∙ sym (harvest_more s.centre taken h s.rounds ∙ (rw (eq-eqb s.rounds s.rounds refl, told) refl)));
         inside = all_appended (λ (item : Item). is_inside one.round.from one.round.below item ≡ true) one.items items is.inside sound.inside;
       }
@@ -137,7 +133,7 @@ take_steps t h actor s place settler round c p items is there sound running awai
     let given = letter_given is_taken t h actor s place (letters.Answer settler round c p items) (Taken place round c p items) is running there (eq-eqb s.centre settler (sym awaits.own)) takes_it refl in
     let answer : IsAnswer t.topology one c p items = subst (λ shape. IsAnswer shape one c p items) is.topology_is (sound awaits.own awaits.current one held) in
     let after : Gathers t.topology (by_settler s.centre (Taken place round c p items) ∷ h) (gathered_by c p items s) (answered_by c p items one) =
-      subst (λ n. Gathers t.topology (by_settler s.centre (Taken place n c p items) ∷ h) (gathered_by c p items s) (answered_by c p items one)) (sym awaits.current) (gathers_more t h s place c p items one (is.gathers one held) answer) in
+    subst (λ n. Gathers t.topology (by_settler s.centre (Taken place n c p items) ∷ h) (gathered_by c p items s) (answered_by c p items one)) (sym awaits.current) (gathers_more t h s place c p items one (is.gathers one held) answer) in
     let now : (gathered_by c p items s).harvest ≡ Some (answered_by c p items one) = ap (option_map (answered_by c p items)) held in
     some_steps is_taken t h actor (Take place) s (gathered_by c p items s) (Taken place round c p items) is given (record {
       stopped_is = refl;

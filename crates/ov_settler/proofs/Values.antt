@@ -1,23 +1,23 @@
 -- The values that version lists keep, as the values that are settled; and that values are those of a plan, each at its task's version and key.
-use Rattle.std.proofs.Common.{◌≡◌, ℕ, ◌+◌, ◌<◌, ◌≤◌, Bool, true, false, ◌==◌, ◌&&◌, ◌||◌, Option, Some, None, List, [], ◌∷◌, ◌++◌, length, map, refl, sym, ap, subst, ◌∙◌, arith, inl, inr}
+use Rattle.std.proofs.Common.{◌≡◌, ℕ, ◌<◌, ◌≤◌, Bool, true, false, ◌&&◌, Option, Some, None, List, [], ◌∷◌, ◌++◌, map, refl, sym, ap, subst, ◌∙◌, arith, inl, inr}
 use Rattle.std.specs.Prelude.{if◌then◌else◌, nat_lt}
 use Rattle.std.specs.List.{AllByRecursion}
 use Rattle.std.specs.Option.{option_map}
-use Rattle.std.proofs.lemmas.Bool.{cases_Bool, both_ways, false_from_ne_true, and_parts, ltb-true}
+use Rattle.std.proofs.lemmas.Bool.{cases_Bool, false_from_ne_true}
 use Rattle.ov_base.specs.Key.{key_eq}
 use Rattle.ov_base.specs.declared.value.Value.{Value}
 use Rattle.ov_functor.specs.Execution.{Map}
-use Rattle.ov_functor.specs.Unions.{IsSorted, backwards, precedes}
+use Rattle.ov_functor.specs.Unions.{IsSorted, backwards}
 use Rattle.ov_functor.specs.Values.{evaluated, later, latest}
 use Rattle.ov_functor.specs.Windows.{Among}
 use Rattle.ov_functor.specs.declared.item.Item.{Item}
 use Rattle.ov_functor.specs.declared.item.Valued.{Valued}
 use Rattle.ov_functor.proofs.Unions.{before_differs}
-use Rattle.ov_lists.specs.Entries.{Entry, has_pair, inserted, is_at, is_below, latest_of, newer, stands_before}
+use Rattle.ov_lists.specs.Entries.{Entry, has_pair, is_at, latest_of, newer, stands_before}
 use Rattle.ov_lists.proofs.Entries.{at_pair, has_pair_inserted, latest_inserted}
 use Rattle.ov_lists.proofs.Orders.{all_put}
-use Rattle.ov_window.specs.Evaluation.{only, values_of}
-use Rattle.ov_window.specs.Plan.{plan_of, task_of, tasks_of}
+use Rattle.ov_window.specs.Evaluation.{only}
+use Rattle.ov_window.specs.Plan.{plan_of, tasks_of}
 use Rattle.ov_window.specs.declared.plan.Task.{Task}
 use Rattle.ov_window.proofs.Drafting.{backwards_twice}
 use Rattle.ov_settler.specs.Settler.{entry_of, valued_of, valued_tasks, with_value, with_values}

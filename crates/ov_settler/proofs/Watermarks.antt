@@ -1,5 +1,5 @@
 -- The watermarks of a vector are those that the settler knows.
-use Rattle.std.proofs.Common.{◌≡◌, ℕ, zero, suc, ◌<◌, ◌≤◌, List, [], ◌∷◌, length, refl, sym, ap, arith}
+use Rattle.std.proofs.Common.{◌≡◌, ℕ, zero, suc, ◌<◌, ◌≤◌, List, [], ◌∷◌, length, sym, ap, arith}
 use Rattle.ov_gossip.specs.Marks.{mark_at, low_of, full_of, least_from, least}
 use Rattle.ov_gossip.specs.declared.marks.Marks.{Marks}
 use Rattle.ov_gossip.proofs.Leasts.{least_under}
@@ -10,7 +10,7 @@ use Rattle.ov_topology.specs.declared.mode.Mode.{Mode}
 use Rattle.ov_topology.specs.declared.mode.Mode.TheVariants.{Quorum, One}
 use Rattle.ov_history.specs.Past.{History}
 use Rattle.ov_history.specs.Counts.{least_of}
-use Rattle.ov_history.specs.Marks.{mark, marks, watermark}
+use Rattle.ov_history.specs.Marks.{mark, marks}
 use Rattle.ov_history.specs.May.{Setting, upper}
 use Rattle.ov_history.proofs.Counting as counting
 use Rattle.ov_settler.specs.Settler.{SettlerState, IsSettler, upper_of}

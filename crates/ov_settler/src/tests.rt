@@ -148,9 +148,7 @@ fn keeps(core: &SettlerCore) -> Result<bool, Fail> {
     let before = core.value_at(key()?, version(3)?.number());
     let after = core.value_at(key()?, version(4)?.number());
     let upto = version(9)?.number();
-    Ok(before == Value::Absent
-        && after == Value::Number(seven()?)
-        && core.settled() == upto)
+    Ok(before == Value::Absent && after == Value::Number(seven()?) && core.settled() == upto)
 }
 
 #[test]

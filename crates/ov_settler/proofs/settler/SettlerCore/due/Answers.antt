@@ -1,6 +1,6 @@
 use Rattle.std.proofs.Common.{◌≡◌, ap, subst, sym, ◌∙◌}
 use Rattle.std.proofs.lemmas.Option.{same_Some}
-use Rattle.ov_window.specs.Harvest.{Gathered, IsWhole}
+use Rattle.ov_window.specs.Harvest.{IsWhole}
 use Rattle.ov_window.specs.declared.round.Round.{Round}
 use Rattle.ov_settler.proofs.settler.SettlerCore.due.Goals as goal
 use Rattle.ov_settler.proofs.settler.SettlerCore.due.Goals.{then-self-via-then-self, then-self-via-else-self+then-not-whole}
