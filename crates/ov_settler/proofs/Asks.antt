@@ -18,7 +18,8 @@ use Rattle.ov_history.specs.May.{Setting}
 use Rattle.ov_history.specs.Cores.{kept, Steps}
 use Rattle.ov_window.specs.Harvest.{IsMarked, fresh, has_answered}
 use Rattle.ov_window.specs.declared.round.Round.{Round}
-use Rattle.ov_settler.specs.Settler.{SettlerState, Gathers, IsSettler, is_asked, upper_of}
+use Rattle.ov_settler.specs.Settler.{SettlerState, Gathers, IsSettler, is_asked}
+use Rattle.ov_settler.specs.Calls.{upper_of}
 use Rattle.ov_settler.proofs.Stands.{by_settler, took_more, harvest_more, nothing_more, some_steps, none_steps}
 use Rattle.ov_settler.proofs.Watermarks.{upper_is}
 

@@ -35,7 +35,8 @@ use Rattle.ov_window.specs.Harvest.{Gathered, IsComplete, IsWhole, has_answered,
 use Rattle.ov_window.specs.Plan.{item_or, map_below, plan_over}
 use Rattle.ov_window.specs.declared.plan.Task.{Task}
 use Rattle.ov_window.proofs.PlanValues.{plan_right}
-use Rattle.ov_settler.specs.Settler.{SettlerState, Closes, Gathers, IsOwn, IsSettler, is_settled, round_of, settled_by, valued_of, valued_tasks}
+use Rattle.ov_settler.specs.Settler.{SettlerState, Gathers, IsOwn, IsSettler, is_settled, round_of, valued_of}
+use Rattle.ov_settler.specs.Calls.{Closes, settled_by, valued_tasks}
 use Rattle.ov_settler.proofs.Stands.{by_settler, nothing_more, Goes, some_steps, none_steps}
 use Rattle.ov_settler.proofs.Takes.{current_is}
 use Rattle.ov_settler.proofs.Values.{all_new, at_places, item_place, kept_all, plan_valued, settled_places, value_place, versions_kept}

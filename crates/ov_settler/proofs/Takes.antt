@@ -22,7 +22,8 @@ use Rattle.ov_history.specs.May.{Setting}
 use Rattle.ov_history.specs.Cores.{Steps}
 use Rattle.ov_window.specs.Harvest.{Gathered, IsMarked, has_answered, marks_of, with_answer}
 use Rattle.ov_window.proofs.Marks.{marked_more}
-use Rattle.ov_settler.specs.Settler.{SettlerState, Awaits, Gathers, IsAnswer, IsSettler, IsSound, answered_by, gathered_by, is_taken, round_of}
+use Rattle.ov_settler.specs.Settler.{SettlerState, Gathers, IsAnswer, IsSettler, IsSound, is_taken, round_of}
+use Rattle.ov_settler.specs.Calls.{Awaits, answered_by, gathered_by}
 use Rattle.ov_settler.proofs.Stands.{by_settler, took_more, harvest_more, nothing_more, some_steps, letter_given}
 
 -- ---- items

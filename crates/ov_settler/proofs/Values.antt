@@ -20,7 +20,8 @@ use Rattle.ov_window.specs.Evaluation.{only}
 use Rattle.ov_window.specs.Plan.{plan_of, tasks_of}
 use Rattle.ov_window.specs.declared.plan.Task.{Task}
 use Rattle.ov_window.proofs.Drafting.{backwards_twice}
-use Rattle.ov_settler.specs.Settler.{entry_of, valued_of, valued_tasks, with_value, with_values}
+use Rattle.ov_settler.specs.Settler.{valued_of}
+use Rattle.ov_settler.specs.Calls.{entry_of, valued_tasks, with_value, with_values}
 
 -- ---- what version lists keep
 

@@ -13,7 +13,8 @@ use Rattle.ov_history.specs.Counts.{least_of}
 use Rattle.ov_history.specs.Marks.{mark, marks}
 use Rattle.ov_history.specs.May.{Setting, upper}
 use Rattle.ov_history.proofs.Counting as counting
-use Rattle.ov_settler.specs.Settler.{SettlerState, IsSettler, upper_of}
+use Rattle.ov_settler.specs.Settler.{SettlerState, IsSettler}
+use Rattle.ov_settler.specs.Calls.{upper_of}
 
 -- what is not above a number and what f says of each is not above the least of them
 not_above : (f : ℕ → ℕ) (number n b : ℕ) → b ≤ number → ((k : ℕ) → k < n → b ≤ f k) → b ≤ least_of f number n

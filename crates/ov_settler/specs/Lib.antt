@@ -1,1 +1,2 @@
 pub mod Settler
+pub mod Calls

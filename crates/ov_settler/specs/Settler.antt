@@ -1,5 +1,5 @@
 -- What a settler core is, which histories it stands for, and which entries its calls make.
-use Rattle.std.specs.Prelude.{◌≡◌, ℕ, ◌<◌, Bool, true, false, Option, Some, None, List, [], ◌∷◌, length, if◌then◌else◌}
+use Rattle.std.specs.Prelude.{◌≡◌, ℕ, ◌<◌, Bool, true, false, Option, Some, None, List, length}
 use Rattle.std.specs.List.{AllByRecursion}
 use Rattle.std.specs.Option.{option_map}
 use Rattle.ov_base.specs.declared.value.Value.{Value}
@@ -7,14 +7,12 @@ use Rattle.ov_functor.specs.Unions.{is_inside, union}
 use Rattle.ov_functor.specs.Values.{latest}
 use Rattle.ov_functor.specs.declared.item.Item.{Item}
 use Rattle.ov_functor.specs.declared.item.Valued.{Valued}
-use Rattle.ov_gossip.specs.Marks.{mark_at, least, low_of, full_of}
+use Rattle.ov_gossip.specs.Marks.{mark_at}
 use Rattle.ov_gossip.specs.declared.marks.Marks.{Marks}
 use Rattle.ov_topology.specs.Shape.{Shape, gates}
 use Rattle.ov_topology.specs.declared.actor.Actor.{Actor}
 use Rattle.ov_topology.specs.declared.actor.Actor.TheVariants.{Settler}
-use Rattle.ov_topology.specs.declared.mode.Mode.{Mode}
-use Rattle.ov_topology.specs.declared.mode.Mode.TheVariants.{Quorum, One}
-use Rattle.ov_lists.specs.Entries.{Entry, has_pair, inserted, latest_of}
+use Rattle.ov_lists.specs.Entries.{Entry, latest_of}
 use Rattle.ov_event.specs.declared.kind.Kind.{Kind}
 use Rattle.ov_event.specs.declared.kind.Kind.TheVariants as kinds
 use Rattle.ov_event.specs.declared.letter.Letter.{Letter}
@@ -25,7 +23,7 @@ use Rattle.ov_history.specs.Settlers as settlers
 use Rattle.ov_history.specs.May.{Setting}
 use Rattle.ov_history.specs.Cores.{Runs}
 use Rattle.ov_window.specs.Evaluation.{values_of}
-use Rattle.ov_window.specs.Harvest.{Gathered, IsMarked, IsWhole, has_answered, with_answer}
+use Rattle.ov_window.specs.Harvest.{Gathered, IsMarked, IsWhole, has_answered}
 use Rattle.ov_window.specs.Plan.{plan_over}
 use Rattle.ov_window.specs.declared.plan.Task.{Task}
 
@@ -51,11 +49,6 @@ IsCore topology (Some harvest) = harvest.topology ≡ topology
 abbrev pub round_of : ℕ → Gathered → settlers.Round
 round_of rounds harvest = record { number = rounds; mode = harvest.round.mode; from = harvest.round.from; below = harvest.round.below }
 
--- up to where a round of this mode asks, by the marks of all gateways
-abbrev pub upper_of : List Marks → Mode → ℕ
-upper_of vector Quorum = least low_of vector
-upper_of vector One = least full_of vector
-
 -- the value that version lists keep at an entry
 abbrev pub valued_of : Entry Value → Valued
 valued_of entry = record { version = entry.version; key = entry.key; value = entry.item }
@@ -72,8 +65,9 @@ pub record Gathers (t : Shape) (h : History) (s : SettlerState) (harvest : Gathe
   pub items_are : union harvest.items ≡ settlers.harvest s.centre s.rounds h
   pub inside : AllByRecursion (λ (item : Item). is_inside harvest.round.from harvest.round.below item ≡ true) harvest.items
 
--- The core stands for a history after which the actor is as the core has it. No answer of a later round is taken. Of the values it is said that the latest of each key below
--- each number is that of all that the settler settled, and that none is from the number on up to which it has settled.
+-- The core stands for a history after which the actor is as the core has it. Besides: no answer of a later round is taken; and of the
+-- values, the latest of each key below each number is that of all that the settler settled, and none is from the number on up to which
+-- it has settled.
 pub record IsSettler (t : Setting) (h : History) (actor : Actor) (s : SettlerState) : Type 0 where
   pub actor_is : actor ≡ Settler s.centre
   pub runs : Runs t h actor s.stopped
@@ -90,8 +84,8 @@ pub record IsSettler (t : Setting) (h : History) (actor : Actor) (s : SettlerSta
 
 -- ---- what the calls ask
 
--- What a settler may rely on in an answer to its open round, as holds of every letter of a lawful history: the node is in the topology,
--- and the items lie in the window of the round.
+-- What a settler may rely on in an answer to its open round, as is so in every lawful history: the node is in the topology, and the
+-- items lie in the window of the round.
 pub record IsAnswer (t : Shape) (harvest : Gathered) (centre part : ℕ) (items : List Item) : Type 0 where
   pub centre_in : centre < t.centres
   pub part_in : part < t.partitions
@@ -105,59 +99,6 @@ IsSound s other = Unit {0}
 -- where a round is open and its harvest is whole, the plan is that of the round, and the values are those of the plan
 abbrev pub IsOwn : SettlerState → List Task → List Value → Type 0
 IsOwn s plan values = (harvest : Gathered) → s.harvest ≡ Some harvest → IsWhole harvest → (plan ≡ plan_over s.values harvest) × (values ≡ values_of plan)
-
--- An answer of the node to this round of the settler is one to the core's open round, and the node is in the topology.
-pub record Awaits (s : SettlerState) (settler round centre part : ℕ) : Type 0 where
-  pub harvest : Gathered
-  pub open_is : s.harvest ≡ Some harvest
-  pub own : settler ≡ s.centre
-  pub current : round ≡ s.rounds
-  pub centre_in : centre < s.topology.centres
-  pub part_in : part < s.topology.partitions
-
--- the harvest after an answer of a node, of which the first alone counts
-abbrev pub answered_by : ℕ → ℕ → List Item → Gathered → Gathered
-answered_by centre part items harvest = if has_answered harvest centre part then harvest else with_answer harvest centre part items
-
--- the core after an answer of a node to its open round
-abbrev pub gathered_by : ℕ → ℕ → List Item → SettlerState → SettlerState
-gathered_by centre part items s = record s { harvest = option_map (answered_by centre part items) s.harvest }
-
--- The core's open round can be settled, up to this number: the settler runs, and its harvest is whole.
-pub record Closes (s : SettlerState) (below : ℕ) : Type 0 where
-  pub harvest : Gathered
-  pub open_is : s.harvest ≡ Some harvest
-  pub running : s.stopped ≡ false
-  pub whole : IsWhole harvest
-  pub below_is : below ≡ harvest.round.below
-
--- up to where the core's open round can be settled, or that it cannot
-abbrev pub IsDue : SettlerState → Option ℕ → Type 0
-IsDue s None = (below : ℕ) → Closes s below → ⊥
-IsDue s (Some below) = Closes s below
-
--- the values of tasks, each at the version and key of its task
-abbrev pub valued_tasks : List Task → List Value → List Valued
-valued_tasks [] values = []
-valued_tasks (task ∷ tasks) [] = []
-valued_tasks (task ∷ tasks) (value ∷ values) = record { version = task.version; key = task.key; value = value } ∷ valued_tasks tasks values
-
--- the entry that version lists keep of a value
-abbrev pub entry_of : Valued → Entry Value
-entry_of value = record { key = value.key; version = value.version; item = value.value }
-
--- entries with a value, where there is none of its key and version
-abbrev pub with_value : Valued → List (Entry Value) → List (Entry Value)
-with_value value entries = if has_pair value.key value.version entries then entries else inserted (entry_of value) entries
-
--- entries with these values, the last one first
-abbrev pub with_values : List Valued → List (Entry Value) → List (Entry Value)
-with_values [] entries = entries
-with_values (value ∷ values) entries = with_value value (with_values values entries)
-
--- the core after it settled its open round up to a number, with these values
-abbrev pub settled_by : ℕ → List Valued → SettlerState → SettlerState
-settled_by below values s = record s { settled = below; harvest = None; values = with_values values s.values }
 
 -- ---- the kinds of entries that the calls make
 

@@ -5,7 +5,8 @@ ghost use Rattle.ov_history.specs.Past.{History};
 ghost use Rattle.ov_history.specs.May.{Setting};
 ghost use Rattle.ov_history.specs.Gives.{Ask};
 ghost use Rattle.ov_history.specs.Cores.{Steps};
-ghost use Rattle.ov_settler.specs.Settler.{IsSettler, is_asked, upper_of};
+ghost use Rattle.ov_settler.specs.Settler.{IsSettler, is_asked};
+ghost use Rattle.ov_settler.specs.Calls.{upper_of};
 
 use super::SettlerCore;
 use ov_base::Memory;

@@ -5,7 +5,8 @@ ghost use Rattle.ov_history.specs.Past.{History};
 ghost use Rattle.ov_history.specs.May.{Setting};
 ghost use Rattle.ov_history.specs.Gives.{Settle};
 ghost use Rattle.ov_history.specs.Cores.{Steps};
-ghost use Rattle.ov_settler.specs.Settler.{IsDue, IsOwn, IsSettler, is_settled, valued_tasks, with_value, with_values};
+ghost use Rattle.ov_settler.specs.Settler.{IsOwn, IsSettler, is_settled};
+ghost use Rattle.ov_settler.specs.Calls.{IsDue, valued_tasks, with_value, with_values};
 
 use super::SettlerCore;
 use ov_base::{Memory, Sequence, Value};

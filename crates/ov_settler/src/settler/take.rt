@@ -6,7 +6,8 @@ ghost use Rattle.ov_history.specs.Letters.{letter as letter_at};
 ghost use Rattle.ov_history.specs.May.{Setting};
 ghost use Rattle.ov_history.specs.Gives.{Take};
 ghost use Rattle.ov_history.specs.Cores.{Steps};
-ghost use Rattle.ov_settler.specs.Settler.{Awaits, IsSettler, IsSound, answered_by, gathered_by, is_taken};
+ghost use Rattle.ov_settler.specs.Settler.{IsSettler, IsSound, is_taken};
+ghost use Rattle.ov_settler.specs.Calls.{Awaits, answered_by, gathered_by};
 
 use super::SettlerCore;
 use ov_base::{Memory, Plain, Sequence};

@@ -1,7 +1,7 @@
 use Rattle.std.proofs.Common.{◌≡◌, ◌+◌, ◌^◌, arith}
 use Rattle.std.specs.Prelude.{nat_lt}
 use Rattle.std.proofs.lemmas.Bool.{and_parts, ltb-true}
-use Rattle.ov_settler.specs.Settler.{upper_of}
+use Rattle.ov_settler.specs.Calls.{upper_of}
 use Rattle.ov_settler.proofs.Asks.{ask_none, ask_steps}
 use Rattle.ov_settler.proofs.settler.SettlerCore.ask.Goals as goal
 use Rattle.ov_settler.proofs.settler.SettlerCore.ask.Goals.{then-self-via-then-self, then-self-via-else-self+then-self-2, then-self-via-else-self+else-self-2+then-below-from}

@@ -1,5 +1,5 @@
 use Rattle.std.proofs.Common.{◌≡◌, ◌≤◌, drop}
-use Rattle.ov_settler.specs.Settler.{with_values}
+use Rattle.ov_settler.specs.Calls.{with_values}
 use Rattle.ov_settler.proofs.settler.settle.keep_all.Given as goal
 
 abbrev pub invariant-loop-place : goal.invariant-loop-place

@@ -1,5 +1,5 @@
 use Rattle.std.proofs.Common.{◌≡◌, ◌++◌, length}
-use Rattle.ov_settler.specs.Settler.{valued_tasks}
+use Rattle.ov_settler.specs.Calls.{valued_tasks}
 use Rattle.ov_settler.proofs.settler.settle.valued.Given as goal
 
 abbrev pub invariant-loop-rest : goal.invariant-loop-rest
