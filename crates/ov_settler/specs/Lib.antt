@@ -1,0 +1,2 @@
+pub mod Settler
+pub mod Calls
