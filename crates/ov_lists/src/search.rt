@@ -62,6 +62,35 @@ pub fn position_for<T>(items: &[Versioned<T>], blocks: &Blocks, key: &Key, numbe
     position_of(items, blocks, key, number)
 }
 
+/// The same, sought in the block of an entry that stands before them, and among all where it is not there.
+pub fn position_near<T>(
+    items: &[Versioned<T>],
+    blocks: &Blocks,
+    at: Position,
+    key: &Key,
+    number: u64,
+) -> Position
+    requires index { IsIndex items.now blocks.now.parts }
+    requires block { at.block < length blocks.now.parts }
+    requires offset { at.offset < length (part_at blocks.now.parts at.block) }
+    requires before { AreBefore key.now number (listed items.now blocks.now.parts) (place_in blocks.now.parts at.block at.offset + 1) }
+    ensures place { IsPlace key.now number (listed items.now blocks.now.parts) (place_in blocks.now.parts result.block result.offset) }
+    ensures within { IsWithin blocks.now.parts result.block result.offset }
+{
+    let block = at.block;
+    let last = Position {
+        block,
+        offset: blocks.len_of(block) - 1,
+    };
+    if entry_at(items, blocks, last).is_before(key, number) {
+        return position_of(items, blocks, key, number);
+    }
+    Position {
+        block,
+        offset: offset_of(items, blocks, block, key, number),
+    }
+}
+
 /// The first block whose first entry does not stand before a key and number.
 fn block_behind<T>(items: &[Versioned<T>], blocks: &Blocks, key: &Key, number: u64) -> usize
     requires { IsIndex items.now blocks.now.parts }

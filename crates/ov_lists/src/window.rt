@@ -8,7 +8,7 @@ ghost use Rattle.ov_lists.specs.Parts.{part_at, place_in, listed, IsIndex, IsAt}
 ghost use Rattle.ov_lists.specs.Places.{AreOutside, Passes};
 
 use crate::blocks::{Blocks, Position};
-use crate::search::{entry_at, position_of};
+use crate::search::{entry_at, position_near};
 use crate::versioned::{PAST_ALL, Versioned};
 use ov_base::{Key, Memory, Version};
 use std::alloc::Global;
@@ -61,9 +61,9 @@ fn next_position<T>(
         return next;
     }
     if entry.version.number() < from {
-        blocks.forward(position_of(items, blocks, &entry.key, from))
+        blocks.forward(position_near(items, blocks, at, &entry.key, from))
     } else {
-        blocks.forward(position_of(items, blocks, &entry.key, PAST_ALL))
+        blocks.forward(position_near(items, blocks, at, &entry.key, PAST_ALL))
     }
 }
 
