@@ -1,21 +1,31 @@
--- The letters of a lawful history are sound for each gateway.
-use Rattle.std.proofs.Common.{◌≡◌, ℕ, ◌≤◌, ◌<◌, Some, List, length, ap, subst, sym, ◌∙◌}
+-- The letters of a lawful history are sound for each gateway, and its answers for the settler that takes them.
+use Rattle.std.proofs.Common.{◌≡◌, ℕ, ◌≤◌, ◌<◌, Bool, true, false, Some, List, [], ◌∷◌, length, cond, refl, ap, subst, sym, ◌∙◌, arith}
+use Rattle.std.specs.List.{AllByRecursion, filter}
+use Rattle.std.proofs.lemmas.Grind.{common_steps}
 use Rattle.std.proofs.lemmas.Option.{slice_get_within}
 use Rattle.ov_base.specs.Version.{time_of, gate_of}
+use Rattle.ov_functor.specs.Unions.{is_inside}
 use Rattle.ov_functor.specs.declared.item.Item.{Item}
+use Rattle.ov_topology.specs.Shape.{Shape}
 use Rattle.ov_topology.specs.declared.actor.Actor.TheVariants.{Node}
 use Rattle.ov_topology.specs.declared.place.Place.{Place}
+use Rattle.ov_event.specs.Letters.{is_in}
 use Rattle.ov_event.specs.declared.entry.Entry.{Entry}
+use Rattle.ov_event.specs.declared.kind.Kind.TheVariants as kinds
 use Rattle.ov_event.specs.declared.letter.Letter.{Letter}
 use Rattle.ov_event.specs.declared.letter.Letter.TheVariants as letters
 use Rattle.ov_history.specs.Past.{History, before}
 use Rattle.ov_history.specs.Letters.{letter, Takes}
 use Rattle.ov_history.specs.Draws.{Drawn, drawn_in, last}
-use Rattle.ov_history.specs.May.{Setting, MayReply, Guard, Lawful}
+use Rattle.ov_history.specs.Nodes.{held}
+use Rattle.ov_history.specs.Settlers.{Round, open_round}
+use Rattle.ov_history.specs.May.{Setting, May, MayReply, MayAnswer, Guard, Lawful}
 use Rattle.ov_history.specs.Cores.{IsSound}
+use Rattle.ov_laws.specs.Harvests.{IsAnswerTo}
 use Rattle.ov_laws.proofs.History.Earlier.{letter_before, letter_lawful}
-use Rattle.ov_laws.proofs.History.Sent.{ack_sent, told_sent}
+use Rattle.ov_laws.proofs.History.Sent.{ack_sent, answer_sent, told_sent}
 use Rattle.ov_laws.proofs.Windows.Writers.{write_sent}
+use Rattle.ov_laws.proofs.Windows.Rounds.{open_is_asked, question}
 use Rattle.ov_laws.proofs.Times.Begun.{drew_early, drew_own}
 use Rattle.ov_laws.proofs.Times.Once.{drew_at}
 
@@ -55,3 +65,40 @@ pub sound : (t : Setting) (h : History) (g : ℕ) (place : Place) (sent : Letter
 sound t h g place (letters.Ack version centre part) lawful there = ack_early t h g place version centre part lawful there
 sound t h g place (letters.Told session seq sender) lawful there = told_within t h place session seq sender lawful there
 sound t h g place other lawful there = tt
+
+-- ---- answers
+
+-- what is left by a test passes it
+filter_passes : {X : Type 0} (test : X → Bool) (xs : List X) → AllByRecursion (λ (x : X). test x ≡ true) (filter test xs)
+filter_passes test [] = tt
+filter_passes {X} test (first ∷ rest) = by (test first) refl (filter_passes test rest)
+  where
+    by : (b : Bool) → test first ≡ b → AllByRecursion (λ (x : X). test x ≡ true) (filter test rest) → AllByRecursion (λ (x : X). test x ≡ true) (cond b (first ∷ filter test rest) (filter test rest))
+    by true is later = (is, later)
+    by false is later = later
+
+-- a node of the topology has its centre and its partition there
+node_known : (t : Shape) (c p : ℕ) → is_in t (Node c p) ≡ true → (c < t.centres) × (p < t.partitions)
+node_known t c p known = (grind (arith, common_steps), grind (arith, common_steps))
+
+-- a settler may rely on every answer to its open round
+pub sound_answer : (t : Setting) (h : History) (s : ℕ) (place : Place) (round : Round) (centre part : ℕ) (items : List Item) → Lawful t h
+    → letter t.topology h place ≡ Some (letters.Answer s round.number centre part items) → open_round s h ≡ Some round → IsAnswerTo t.topology round centre part items
+sound_answer t h s place round centre part items lawful there is_open =
+    let ask = open_is_asked h s round is_open in
+    let found = letter_lawful t h place (letters.Answer s round.number centre part items) lawful there in
+    let sent = answer_sent t.topology found.0 place.letter s round.number centre part items found.2 in
+    let answered : Entry = record { actor = Node centre part; kind = kinds.Answered sent.0 s round.number items } in
+    let may : May t (before place.entry h) answered = subst (λ (e : Entry). May t (before place.entry h) e) sent.1 found.3 in
+    let guard : MayAnswer t.topology (before place.entry h) sent.0 centre part s round.number items = may.guard in
+    let asked = question t h ask.0 place.entry s round centre part sent.0 items lawful ask.1 guard in
+    let node = node_known t.topology centre part may.known in
+    let old = filter_passes (is_inside guard.from guard.below) (held centre part (before place.entry h)) in
+    let inside : AllByRecursion (λ (item : Item). is_inside guard.from guard.below item ≡ true) items
+    = subst (λ (list : List Item). AllByRecursion (λ (item : Item). is_inside guard.from guard.below item ≡ true) list) (sym guard.all) old in
+    record {
+      centre_in = node.0;
+      part_in = node.1;
+      inside = subst (λ (from : ℕ). AllByRecursion (λ (item : Item). is_inside from round.below item ≡ true) items) asked.from_is
+          (subst (λ (below : ℕ). AllByRecursion (λ (item : Item). is_inside guard.from below item ≡ true) items) asked.below_is inside);
+    }

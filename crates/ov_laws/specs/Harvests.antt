@@ -1,8 +1,10 @@
 -- Windows, what settlers gather of them, and lists of items by version and then key, each version and key once.
-use Rattle.std.specs.Prelude.{◌≡◌, ℕ, ◌<◌, Some, List, ◌++◌, slice_get, ◌↔◌}
+use Rattle.std.specs.Prelude.{◌≡◌, ℕ, ◌<◌, true, Some, List, ◌++◌, slice_get, ◌↔◌}
+use Rattle.std.specs.List.{AllByRecursion}
 use Rattle.ov_functor.specs.Windows.{Among}
 use Rattle.ov_functor.specs.declared.item.Item.{Item}
-use Rattle.ov_functor.specs.Unions.{IsSorted}
+use Rattle.ov_functor.specs.Unions.{IsSorted, is_inside}
+use Rattle.ov_topology.specs.Shape.{Shape}
 use Rattle.ov_history.specs.Past.{History}
 use Rattle.ov_history.specs.Settlers.{Round, open_round, IsEnough, harvest}
 use Rattle.ov_history.specs.May.{Setting, Lawful}
@@ -36,3 +38,11 @@ HasOnlyWindow h s round = (items : List Item) → IsSorted items → IsWindow h 
 -- whatever entries may follow, the window that the round asked for has the same items
 abbrev pub WindowStays : Setting → History → Round → Type 0
 WindowStays t h round = (more : History) → Lawful t (more ++ h) → (item : Item) → InWindow (more ++ h) round.from round.below item ↔ InWindow h round.from round.below item
+
+-- ---- answers
+
+-- What a settler may rely on in an answer to a round: the node is in the topology, and the items lie in the round's window.
+pub record IsAnswerTo (t : Shape) (round : Round) (centre part : ℕ) (items : List Item) : Type 0 where
+  pub centre_in : centre < t.centres
+  pub part_in : part < t.partitions
+  pub inside : AllByRecursion (λ (item : Item). is_inside round.from round.below item ≡ true) items

@@ -6,7 +6,7 @@ mod values;
 mod watermarks;
 mod windows;
 
-pub use letters::sound_letters;
+pub use letters::{sound_answers, sound_letters};
 pub use sessions::session_order;
 pub use times::{bounded_times, drawn_once};
 pub use values::{order, right_replies, serial_fold_of_history, settled_values};

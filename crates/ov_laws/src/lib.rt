@@ -1,5 +1,5 @@
 //! The laws of lawful histories: which watermarks are final, what a settler gathers, what settled values and replies show, the
-//! order of sessions, how far times go, and what gateways may rely on in letters. No actor and no judge stands on this crate, so no
+//! order of sessions, how far times go, and what gateways and settlers may rely on in letters. No actor and no judge stands on this crate, so no
 //! edit here has them proved again.
 //!
 //! The promise to the layers above: `right_replies`. In every lawful history each reply shows what executing all begun transactions
@@ -13,5 +13,5 @@ mod laws;
 pub use laws::{
     bounded_times, drawn_once, final_stays, final_watermark, growing_marks, harvest_list,
     harvest_window, order, right_replies, serial_fold_of_history, session_order, settled_values,
-    sound_letters,
+    sound_answers, sound_letters,
 };

@@ -5,6 +5,7 @@ use Rattle.std.proofs.lemmas.Grind.{common_steps}
 use Rattle.ov_functor.specs.Windows.{Among, HasItem}
 use Rattle.ov_functor.specs.declared.item.Item.{Item}
 use Rattle.ov_functor.specs.Unions.{all_added, is_inside}
+use Rattle.ov_topology.specs.Shape.{Shape}
 use Rattle.ov_topology.specs.declared.actor.Actor.{Actor}
 use Rattle.ov_topology.specs.declared.actor.Actor.TheVariants.{Gate, Node, Settler}
 use Rattle.ov_topology.specs.declared.place.Place.{Place}
@@ -120,22 +121,38 @@ pub record Tells (h : History) (k c p : ℕ) (round : Round) (items : List Item)
 abbrev pub taken_by : ℕ → ℕ → ℕ → ℕ → Place → List Item → Entry
 taken_by s n c p place items = record { actor = Settler s; kind = kinds.Taken place n c p items }
 
--- a node that may answer what is asked for tells of the window
-answer_tells : (t : Setting) (h : History) (k j s : ℕ) (round : Round) (c p : ℕ) (place : Place) (items : List Item) → Lawful t h → at h k ≡ Some (asked_by s round)
-    → MayAnswer t.topology (before j h) place c p s round.number items → Tells h k c p round items
-answer_tells t h k j s round c p place items lawful ask may =
-    let question = letter_at t.topology (before j h) place.entry place.letter _ may.sent.there in
+-- What a node that may answer was asked is what the settler asked for where it opened the round of that number.
+pub record IsQuestion (t : Shape) (h : History) (k j s : ℕ) (round : Round) (c p : ℕ) (place : Place) (items : List Item) (may : MayAnswer t (before j h) place c p s round.number items) : Type 0 where
+  pub asked : at (before j h) place.entry ≡ Some (asked_by s (record { number = round.number; mode = may.mode; from = may.from; below = may.below }))
+  pub same : place.entry ≡ k
+  pub from_is : may.from ≡ round.from
+  pub below_is : may.below ≡ round.below
+
+-- a node that may answer was asked for the window of the round
+pub question : (t : Setting) (h : History) (k j s : ℕ) (round : Round) (c p : ℕ) (place : Place) (items : List Item) → Lawful t h → at h k ≡ Some (asked_by s round)
+    → (may : MayAnswer t.topology (before j h) place c p s round.number items) → IsQuestion t.topology h k j s round c p place items may
+question t h k j s round c p place items lawful ask may =
+    let letter = letter_at t.topology (before j h) place.entry place.letter _ may.sent.there in
     let asking : Round = record { number = round.number; mode = may.mode; from = may.from; below = may.below } in
-    let sent : question.0 ≡ asked_by s asking = ask_sent t.topology question.0 place.letter s round.number may.mode may.from may.below question.2 in
+    let sent : letter.0 ≡ asked_by s asking = ask_sent t.topology letter.0 place.letter s round.number may.mode may.from may.below letter.2 in
     let i = place.entry in
-    let asked : at (before j h) i ≡ Some (asked_by s asking) = question.1 ∙ ap (λ (e : Entry). Some e) sent in
+    let asked : at (before j h) i ≡ Some (asked_by s asking) = letter.1 ∙ ap (λ (e : Entry). Some e) sent in
     let asked_at : at h i ≡ Some (asked_by s asking) = at_before h j i (asked_by s asking) asked in
     let one : i ≡ k = ask_once t h i k s asking round lawful refl asked_at ask in
     let both : ◌≡◌ {A = Option Entry} (Some (asked_by s asking)) (Some (asked_by s round)) = sym asked_at ∙ (ap (at h) one ∙ ask) in
     let entry_is : asked_by s asking ≡ asked_by s round = cc in
-    let from_is : may.from ≡ round.from = grind (arith, common_steps) in
-    let below_is : may.below ≡ round.below = grind (arith, common_steps) in
-    let past : before i (before j h) ≡ before k h = before_before h j i (asked_by s asking) asked ∙ ap (λ (n : ℕ). before n h) one in
+    record { asked = asked; same = one; from_is = grind (arith, common_steps); below_is = grind (arith, common_steps) }
+
+-- a node that may answer what is asked for tells of the window
+answer_tells : (t : Setting) (h : History) (k j s : ℕ) (round : Round) (c p : ℕ) (place : Place) (items : List Item) → Lawful t h → at h k ≡ Some (asked_by s round)
+    → MayAnswer t.topology (before j h) place c p s round.number items → Tells h k c p round items
+answer_tells t h k j s round c p place items lawful ask may =
+    let asking : Round = record { number = round.number; mode = may.mode; from = may.from; below = may.below } in
+    let is = question t h k j s round c p place items lawful ask may in
+    let i = place.entry in
+    let from_is : may.from ≡ round.from = is.from_is in
+    let below_is : may.below ≡ round.below = is.below_is in
+    let past : before i (before j h) ≡ before k h = before_before h j i (asked_by s asking) is.asked ∙ ap (λ (n : ℕ). before n h) is.same in
     let old : Lawful t (before j h) = lawful_before t h j lawful in
     record {
       all = λ item among low high.
