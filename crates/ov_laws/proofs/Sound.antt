@@ -1,7 +1,8 @@
 -- The letters of a lawful history are sound for each gateway, and its answers for the settler that takes them.
-use Rattle.std.proofs.Common.{◌≡◌, ℕ, ◌≤◌, ◌<◌, Bool, true, false, Some, List, [], ◌∷◌, length, cond, refl, ap, subst, sym, ◌∙◌, arith}
-use Rattle.std.specs.List.{AllByRecursion, filter}
+use Rattle.std.proofs.Common.{◌≡◌, ℕ, ◌≤◌, ◌<◌, true, Some, List, length, ap, subst, sym, ◌∙◌, arith}
+use Rattle.std.specs.List.{AllByRecursion}
 use Rattle.std.proofs.lemmas.Grind.{common_steps}
+use Rattle.std.proofs.lemmas.List.Elements.{filter_passes, recursion_from_All}
 use Rattle.std.proofs.lemmas.Option.{slice_get_within}
 use Rattle.ov_base.specs.Version.{time_of, gate_of}
 use Rattle.ov_functor.specs.Unions.{is_inside}
@@ -68,15 +69,6 @@ sound t h g place other lawful there = tt
 
 -- ---- answers
 
--- what is left by a test passes it
-filter_passes : {X : Type 0} (test : X → Bool) (xs : List X) → AllByRecursion (λ (x : X). test x ≡ true) (filter test xs)
-filter_passes test [] = tt
-filter_passes {X} test (first ∷ rest) = by (test first) refl (filter_passes test rest)
-  where
-    by : (b : Bool) → test first ≡ b → AllByRecursion (λ (x : X). test x ≡ true) (filter test rest) → AllByRecursion (λ (x : X). test x ≡ true) (cond b (first ∷ filter test rest) (filter test rest))
-    by true is later = (is, later)
-    by false is later = later
-
 -- a node of the topology has its centre and its partition there
 node_known : (t : Shape) (c p : ℕ) → is_in t (Node c p) ≡ true → (c < t.centres) × (p < t.partitions)
 node_known t c p known = (grind (arith, common_steps), grind (arith, common_steps))
@@ -93,7 +85,8 @@ sound_answer t h s place round centre part items lawful there is_open =
     let guard : MayAnswer t.topology (before place.entry h) sent.0 centre part s round.number items = may.guard in
     let asked = question t h ask.0 place.entry s round centre part sent.0 items lawful ask.1 guard in
     let node = node_known t.topology centre part may.known in
-    let old = filter_passes (is_inside guard.from guard.below) (held centre part (before place.entry h)) in
+    let test = is_inside guard.from guard.below in
+    let old = recursion_from_All (λ (item : Item). test item ≡ true) _ (filter_passes test (held centre part (before place.entry h))) in
     let inside : AllByRecursion (λ (item : Item). is_inside guard.from guard.below item ≡ true) items
     = subst (λ (list : List Item). AllByRecursion (λ (item : Item). is_inside guard.from guard.below item ≡ true) list) (sym guard.all) old in
     record {
