@@ -20,7 +20,7 @@ impl SettlerCore {
     /// Takes an `Answer` letter, with its `Taken` entry. None exactly where no such entry may follow: the settler has stopped, or the
     /// letter is not an answer to its open round. After None, and on an error, nothing has changed. The letter stands at the place in
     /// the history, and it is sound: an answer to the open round is of a node of the topology, and its items lie in the round's window,
-    /// as in every lawful history. Takes memory for two copies of the answer.
+    /// as in every lawful history (`sound_answers` of `ov_laws`). Takes memory for two copies of the answer.
     pub fn take(&mut self, place: Place, letter: &Letter) -> Result<Option<Entry>, Memory>
         ensures steps { IfOk result (λ answer. (t : Setting) (h : History) (actor : actors.Actor) → IsSettler t h actor self.old → letter_at t.topology h place ≡ Some letter.now → IsSound self.old letter.now → Steps IsSettler is_taken t h actor (Take place) answer self.new) }
         ensures none { IfOk result (λ answer. answer ≡ None → self.new ≡ self.old) }
