@@ -1,8 +1,8 @@
-//! Whole transactions on a map from keys to values, as code keeps it.
+//! Whole transactions on a map from keys to values, as code keeps or finds it.
 ghost use Rattle.std.specs.Prelude.{◌≡◌, IfOk};
 ghost use Rattle.ov_base.specs.declared.value.Value.{Value};
 ghost use Rattle.ov_base.specs.declared.value.Value.TheVariants.{Number};
-ghost use Rattle.ov_functor.specs.Execution.{got, hold, moves_of, reply_of};
+ghost use Rattle.ov_functor.specs.Execution.{Map, got, hold, moves_of, reply_of};
 ghost use Rattle.ov_functor.specs.Kept.{map_by, own};
 
 use crate::item::Shown;
@@ -39,27 +39,38 @@ impl Kept for Value {
     }
 }
 
-/// The value of a key, absent where nothing is kept of it. Does not allocate.
-pub fn value_of<T: Kept>(kept: &BTreeMap<Key, T>, key: &Key) -> Value
-    ensures { result ≡ map_by T.value kept.now key.now }
-{
-    match kept.get(key) {
-        None => Value::Absent,
-        Some(one) => one.value(),
+/// Where the value of each key is found.
+pub trait Lookup {
+    /// The map from keys to values.
+    ghost map: { Self → Map };
+
+    /// The value of a key, absent where it has none. Does not allocate.
+    fn value_of(&self, key: &Key) -> Value
+        ensures { result ≡ map self.now key.now };
+}
+
+impl<T: Kept> Lookup for BTreeMap<Key, T> {
+    ghost map = { map_by T.value };
+
+    fn value_of(&self, key: &Key) -> Value {
+        match self.get(key) {
+            None => Value::Absent,
+            Some(one) => one.value(),
+        }
     }
 }
 
 /// The reply of a transaction at this version, executed on these values. The only error is out of memory.
-pub fn reply_on<T: Kept>(
+pub fn reply_on<L: Lookup>(
     alloc: Global,
     version: Version,
     transaction: &Transaction,
-    kept: &BTreeMap<Key, T>,
+    values: &L,
 ) -> Result<Reply, Memory>
-    ensures { IfOk result (λ r. r ≡ reply_of (map_by T.value kept.now) version transaction.now) }
+    ensures { IfOk result (λ r. r ≡ reply_of (L.map values.now) version transaction.now) }
 {
-    let gets = gets_of(alloc, transaction.parts(), kept)?;
-    if moves_hold(transaction.parts(), kept) {
+    let gets = gets_of(alloc, transaction.parts(), values)?;
+    if moves_hold(transaction.parts(), values) {
         Ok(Reply::Done { version, gets })
     } else {
         Ok(Reply::Aborted { version, gets })
@@ -67,8 +78,8 @@ pub fn reply_on<T: Kept>(
 }
 
 /// Whether all moves among the parts hold on these values. Does not allocate.
-pub fn moves_hold<T: Kept>(parts: &[Part], kept: &BTreeMap<Key, T>) -> bool
-    ensures { result ≡ hold (map_by T.value kept.now) (moves_of parts.now) }
+pub fn moves_hold<L: Lookup>(parts: &[Part], values: &L) -> bool
+    ensures { result ≡ hold (L.map values.now) (moves_of parts.now) }
 {
     for part in parts {
         if let Part::Move { from, to, amount } = part {
@@ -77,7 +88,7 @@ pub fn moves_hold<T: Kept>(parts: &[Part], kept: &BTreeMap<Key, T>) -> bool
                 to: *to,
                 amount: *amount,
             };
-            if !one.holds(value_of(kept, from), value_of(kept, to)) {
+            if !one.holds(values.value_of(from), values.value_of(to)) {
                 return false;
             }
         }
@@ -86,19 +97,15 @@ pub fn moves_hold<T: Kept>(parts: &[Part], kept: &BTreeMap<Key, T>) -> bool
 }
 
 /// What the gets among the parts show.
-fn gets_of<T: Kept>(
-    alloc: Global,
-    parts: &[Part],
-    kept: &BTreeMap<Key, T>,
-) -> Result<Sequence<Shown>, Memory>
-    ensures { IfOk result (λ gets. gets ≡ got (map_by T.value kept.now) parts.now) }
+fn gets_of<L: Lookup>(alloc: Global, parts: &[Part], values: &L) -> Result<Sequence<Shown>, Memory>
+    ensures { IfOk result (λ gets. gets ≡ got (L.map values.now) parts.now) }
 {
     let mut gets = Sequence::new(alloc);
     for part in parts {
         if let Part::Get { key } = part {
             gets.push(Shown {
                 key: *key,
-                value: value_of(kept, key),
+                value: values.value_of(key),
             })?;
         }
     }

@@ -28,7 +28,7 @@ pub use error::TxnError;
 pub use functor::{Functor, FunctorError};
 pub use item::{Item, Shown, Valued};
 pub use items::items_of;
-pub use kept::{Kept, moves_hold, reply_on, value_of};
+pub use kept::{Kept, Lookup, moves_hold, reply_on};
 pub use laws::{functor_agreement, moves_are_exact, serial_fold, window_values};
 pub use part::{Move, Part};
 pub use reply::Reply;

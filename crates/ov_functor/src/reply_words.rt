@@ -69,7 +69,7 @@ fn showing_read(
 fn showns_read(alloc: Global, words: &[&[u8]]) -> Result<Option<Sequence<Shown>>, Memory>
     ensures { IfOk result (λ o. o ≡ all_of shown_of (words_in words.now)) }
 {
-    let mut list = Sequence::new(alloc);
+    let mut list = Sequence::with_capacity(alloc, words.len())?;
     for word in words {
         match shown_read(word) {
             None => return Ok(None),

@@ -34,7 +34,7 @@ fn parts_read(alloc: Global, text: &[u8]) -> Result<Option<Vec<Part>>, Memory>
 pub fn parts_in_groups(alloc: Global, groups: &[&[&[u8]]]) -> Result<Option<Vec<Part>>, Memory>
     ensures { IfOk result (λ o. option_map (λ v. v.items) o ≡ parts_in (groups_in groups.now)) }
 {
-    let mut parts = Vec::new(alloc);
+    let mut parts = Vec::with_capacity(alloc, groups.len())?;
     for group in groups {
         match parse_part(group) {
             None => return Ok(None),

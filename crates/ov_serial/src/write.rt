@@ -5,7 +5,7 @@ ghost use Rattle.ov_functor.specs.Execution.{exec, set, least_value, greatest_va
 ghost use Rattle.ov_serial.specs.Results.{set_back, value_in, writes_in, writes_of};
 
 use ov_base::{Amount, Key, Memory, Sequence, Value};
-use ov_functor::{Part, Shown, Transaction, moves_hold, value_of};
+use ov_functor::{Lookup, Part, Shown, Transaction, moves_hold};
 use std::alloc::Global;
 use std::collections::BTreeMap;
 
@@ -55,17 +55,17 @@ fn add_writes(
             value: Value::Absent,
         }),
         Part::Add { key, amount } => {
-            writes.push(number(key, value_of(values, key).or_zero().sum(*amount)))
+            writes.push(number(key, values.value_of(key).or_zero().sum(*amount)))
         }
         Part::Least { key, amount } => {
-            writes.push(number(key, least_with(value_of(values, key), *amount)))
+            writes.push(number(key, least_with(values.value_of(key), *amount)))
         }
         Part::Greatest { key, amount } => {
-            writes.push(number(key, greatest_with(value_of(values, key), *amount)))
+            writes.push(number(key, greatest_with(values.value_of(key), *amount)))
         }
         Part::Move { from, to, amount } => {
-            writes.push(number(from, value_of(values, from).or_zero().difference(*amount)))?;
-            writes.push(number(to, value_of(values, to).or_zero().sum(*amount)))
+            writes.push(number(from, values.value_of(from).or_zero().difference(*amount)))?;
+            writes.push(number(to, values.value_of(to).or_zero().sum(*amount)))
         }
         Part::Get { .. } => Ok(()),
     }

@@ -13,7 +13,7 @@ ghost use Rattle.ov_top.specs.Run.{entries_of, command_entries};
 
 use crate::story::FirstEntry;
 use ov_base::{Key, Memory, Plain, Sequence, Value, Version};
-use ov_functor::{Functor, Item, Transaction, Valued, items_of, reply_on, value_of};
+use ov_functor::{Functor, Item, Lookup, Transaction, Valued, items_of, reply_on};
 use std::alloc::Global;
 use std::collections::BTreeMap;
 
@@ -117,7 +117,7 @@ fn inputs_of(
 {
     let mut inputs = Sequence::new(alloc);
     for place in 0..functor.read_count() {
-        inputs.push(value_of(newest, &functor.read_key(place)))?;
+        inputs.push(newest.value_of(&functor.read_key(place)))?;
     }
     Ok(inputs)
 }
