@@ -1,35 +1,63 @@
--- What std's `parse` says of a text without a sign or a leading zero, in the words of a reader.
-use Rattle.std.proofs.Common.{◌≡◌, ℕ, ◌<◌, ◌^◌, List, length, Option, Some, None, Result, Ok, Err, refl, sym, ap, subst, ◌∙◌, arith, inl, inr, Bool, true, false, IsTrue, ◌↔◌, cond, ltb, leb, ◌&&◌}
+-- What reading digits gives on a text without a leading zero, in the words of a reader.
+use Rattle.std.proofs.Common.{◌≡◌, ℕ, ◌+◌, ◌-◌, ◌*◌, ◌<◌, ◌≤◌, ◌^◌, List, [], ◌∷◌, length, Option, Some, None, refl, sym, ap, subst, ◌∙◌, arith, inl, inr, Bool, true, false, IsTrue, ◌↔◌, cond, ltb, leb, ◌&&◌}
 use Rattle.std.specs.Fmt.{decimal}
-use Rattle.std.specs.Str.{IsUtf8}
-use Rattle.std.specs.Result.{result_ok, OkIff}
-use Rattle.std.specs.Str.Parse.{digits_value, AllDigits, ParsesUnsigned}
+use Rattle.std.specs.Char.{digit_value}
+use Rattle.std.specs.Int.{IsInRange}
+use Rattle.std.specs.Str.Parse.{digits_value, digits_value_after, AllDigits}
 use Rattle.std.proofs.lemmas.Bool.{cases_eq, lt-ltb, ltb-true, le-leb, leb-true, and_parts}
 use Rattle.std.proofs.lemmas.Option.{cond_some}
 use Rattle.std.proofs.lemmas.Slice.Eq.{bytes_eq-Decides}
 use Rattle.std.specs.Str.{bytes_eq}
-use Rattle.std.proofs.lemmas.Str.{IsUtf8-from_ascii}
-use Rattle.std.proofs.lemmas.Str.Parse.{IsNumeralModel, numerals_by_value, tells_digits, parse_plain, digit_at}
-use Rattle.std.proofs.lemmas.Fmt.{digits_decimal, digits_value-decimal, decimal-digits_value, decimal_nonempty, first_decimal, decimal_digit, IsAscii-decimal}
+use Rattle.std.proofs.lemmas.Str.{digit_value_digit}
+use Rattle.std.proofs.lemmas.Str.Parse.{IsNumeralModel, numerals_by_value, tells_digits, digit_at, digit_from_value}
+use Rattle.std.proofs.lemmas.Fmt.{digits_decimal, digits_value-decimal, decimal-digits_value, decimal_nonempty, first_decimal, decimal_digit}
 use Rattle.ov_base.specs.Word.{Reads}
-use Rattle.ov_base.specs.Number.{IsWord64, IsWithin, IsPlain, number_of, number_within}
+use Rattle.ov_base.specs.Number.{IsWord64, IsWithin, IsPlain, number_of, number_within, value_after, with_digit}
 use Rattle.ov_base.proofs.Readers.{bind_some}
 
 own : IsNumeralModel (AllDigits 10) (digits_value 10)
 own = numerals_by_value (AllDigits 10) tells_digits
 
-number_from_iff : {E : Type 0} (bs : List ℕ) (r : Result ℕ E) → IsPlain bs
-    → OkIff r (AllDigits 10 bs × (0 < length bs) × (digits_value 10 bs < 2 ^ 64)) (digits_value 10 bs) → Reads decimal IsWord64 bs (result_ok r)
-number_from_iff bs (Ok n) plain h =
-    (subst (λ (m : ℕ). m < 2 ^ 64) (sym h.1) h.0.2, sym (ap decimal h.1 ∙ decimal-digits_value own bs h.0.0 plain.some plain.zero h.0.2))
-number_from_iff bs (Err e) plain h = λ n small is. h (
-  subst (AllDigits 10) (sym is) (digits_decimal own n small),
-  plain.some,
-  subst (λ (m : ℕ). m < 2 ^ 64) (sym (ap (digits_value 10) is ∙ digits_value-decimal own n small)) small,
-)
+after_ge : (n : ℕ) (bs : List ℕ) → n ≤ digits_value_after 10 n bs
+after_ge n [] = omega arith
+after_ge n (b ∷ bs) = omega (arith, after_ge (n * 10 + digit_value b) bs)
 
-pub number_from_parse : {E : Type 0} (bs : List ℕ) (r : Result ℕ E) → IsPlain bs → ParsesUnsigned 64 10 bs r → Reads decimal IsWord64 bs (result_ok r)
-number_from_parse bs r plain h = number_from_iff bs r plain (parse_plain own 64 bs r h plain.no_sign)
+-- digits are read as their value
+value_is : (n : ℕ) (bs : List ℕ) → AllDigits 10 bs → digits_value_after 10 n bs < 2 ^ 64 → value_after n bs ≡ Some (digits_value_after 10 n bs)
+value_is n [] digits small = refl
+value_is n (b ∷ bs) digits small =
+    let range = digit_from_value b digits.0 in
+    let same : n * 10 + digit_value b ≡ n * 10 + (b - 48) = omega (arith, digit_value_digit b range) in
+    let rest = value_is (n * 10 + digit_value b) bs digits.1 small in
+    let held : n * 10 + (b - 48) < 2 ^ 64 = omega (arith, same, small, after_ge (n * 10 + digit_value b) bs) in
+    rw (le-leb 48 b range.0, le-leb b 57 range.1, lt-ltb (n * 10 + (b - 48)) (2 ^ 64) held)
+    (subst (λ (k : ℕ). value_after k bs ≡ Some (digits_value_after 10 (n * 10 + digit_value b) bs)) same rest)
+
+two_tests : {A : Type 0} (a b : Bool) (x y : A) → cond a (cond b (Some x) None) None ≡ Some y → (a ≡ true) × (b ≡ true) × (x ≡ y)
+two_tests true true x y e = (refl, refl, cc)
+two_tests true false x y e = absurd cc
+two_tests false b x y e = absurd cc
+
+-- what is read is digits, and their value
+value_takes : (n m : ℕ) (bs : List ℕ) → n < 2 ^ 64 → value_after n bs ≡ Some m → AllDigits 10 bs × (digits_value_after 10 n bs ≡ m) × (m < 2 ^ 64)
+value_takes n m [] small e = let same : n ≡ m = cc in (tt, same, subst (λ (k : ℕ). k < 2 ^ 64) same small)
+value_takes n m (b ∷ bs) small e =
+    bind_some (with_digit n b) _ m e λ k read rest.
+    let digit = two_tests (leb 48 b && leb b 57) (ltb (n * 10 + (b - 48)) (2 ^ 64)) (n * 10 + (b - 48)) k read in
+    let range = and_parts (leb 48 b) (leb b 57) digit.0 in
+    let is : IsInRange 48 57 b = (leb-true 48 b range.0, leb-true b 57 range.1) in
+    let same : n * 10 + digit_value b ≡ k = omega (arith, digit_value_digit b is, digit.2) in
+    let more = value_takes k m bs (subst (λ (x : ℕ). x < 2 ^ 64) digit.2 (ltb-true (n * 10 + (b - 48)) (2 ^ 64) digit.1)) rest in
+    ((omega (arith, digit_value_digit b is, is.1), more.0), ap (λ x. digits_value_after 10 x bs) same ∙ more.1, more.2)
+
+-- what the digits give is what the bytes spell, where they have no leading zero
+pub number_from_value : (bs : List ℕ) (r : Option ℕ) → IsPlain bs → r ≡ value_after 0 bs → Reads decimal IsWord64 bs r
+number_from_value bs (Some n) plain e =
+    let t = value_takes 0 n bs (omega arith) (sym e) in
+    (t.2, sym (ap decimal (sym t.1) ∙ decimal-digits_value own bs t.0 plain.some plain.zero (subst (λ (m : ℕ). m < 2 ^ 64) (sym t.1) t.2)))
+number_from_value bs None plain e = λ n small is.
+    let read = value_is 0 bs (subst (AllDigits 10) (sym is) (digits_decimal own n small)) (subst (λ (m : ℕ). m < 2 ^ 64) (sym (ap (digits_value 10) is ∙ digits_value-decimal own n small)) small) in
+    absurd cc
 
 pub decimal_plain : (n : ℕ) → n < 2 ^ 64 → IsPlain (decimal n)
 decimal_plain n small =
@@ -49,9 +77,6 @@ not_plain bs b h e n small is = let t : IsTrue b = h.1 (subst IsPlain (sym is) (
 
 pub plain_is : (bs : List ℕ) (b : Bool) → (IsTrue b ↔ IsPlain bs) → b ≡ true → IsPlain bs
 plain_is bs b h e = h.0 e
-
-pub not_text : (bs : List ℕ) → (IsUtf8 bs → ⊥) → (n : ℕ) → n < 2 ^ 64 → bs ≡ decimal n → ⊥
-not_text bs h n small is = h (subst IsUtf8 (sym is) (IsUtf8-from_ascii (decimal n) (IsAscii-decimal n small)))
 
 pub number_again : (n : ℕ) → n < 2 ^ 64 → number_of (decimal n) ≡ Some n
 unfolding number_of

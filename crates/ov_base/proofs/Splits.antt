@@ -1,5 +1,5 @@
 -- What cutting gives is what was joined.
-use Rattle.std.proofs.Common.{◌≡◌, ℕ, ◌+◌, ◌-◌, ◌<◌, ◌^◌, Bool, true, false, List, [], ◌∷◌, ◌++◌, length, get_or, take, Option, Some, None, refl, sym, ap, subst, ◌∙◌, arith, inl, inr}
+use Rattle.std.proofs.Common.{◌≡◌, ℕ, zero, suc, ◌+◌, ◌-◌, ◌<◌, ◌^◌, Bool, true, false, List, [], ◌∷◌, ◌++◌, length, get_or, take, drop, Option, Some, None, refl, sym, ap, subst, ◌∙◌, arith, inl, inr}
 use Rattle.std.specs.Option.{option_map}
 use Rattle.std.specs.List.{list_all}
 use Rattle.std.specs.Fmt.{decimal}
@@ -37,6 +37,25 @@ cut_takes b (x ∷ bytes) xs ys e =
           subst (λ (r : List ℕ × List ℕ). x ∷ bytes ≡ r.0 ++ b ∷ r.1) q (ap (λ (y : ℕ). y ∷ bytes) p.1)
       | inr p ↦ taken_more x (cut_at b bytes) (λ us vs. x ∷ bytes ≡ us ++ b ∷ vs) xs ys
           (λ us vs e. ap (λ (t : List ℕ). x ∷ t) (cut_takes b bytes us vs e)) (rw p.0 at e)
+    ]
+
+-- the first place of a byte is where its bytes are cut
+pub cut_first : (b : ℕ) (bytes : List ℕ) (k : ℕ) → k < length bytes → ((j : ℕ) → j < k → get_or bytes j 0 ≡ b → ⊥) → get_or bytes k 0 ≡ b
+    → cut_at b bytes ≡ Some (take k bytes, drop (suc k) bytes)
+cut_first b [] k within none is = absurd (omega arith)
+cut_first b (x ∷ bytes) zero within none is = elim (eqb_tells x b) [ inl p ↦ rw p.0 refl | inr p ↦ absurd (p.1 is) ]
+cut_first b (x ∷ bytes) (suc k) within none is =
+    elim (eqb_tells x b) [
+      | inl p ↦ absurd (none 0 (omega arith) p.1)
+      | inr p ↦ rw (p.0, cut_first b bytes k (omega arith) (λ j l. none (suc j) (omega arith)) is) refl
+    ]
+
+pub cut_none : (b : ℕ) (bytes : List ℕ) → ((j : ℕ) → j < length bytes → get_or bytes j 0 ≡ b → ⊥) → cut_at b bytes ≡ None
+cut_none b [] none = refl
+cut_none b (x ∷ bytes) none =
+    elim (eqb_tells x b) [
+      | inl p ↦ absurd (none 0 (omega arith) p.1)
+      | inr p ↦ rw (p.0, cut_none b bytes (λ j l. none (suc j) (omega arith))) refl
     ]
 
 -- behind a cut there is less

@@ -1,8 +1,10 @@
 //! Texts of lines, each ended by a line feed: reading one line after the other, up to the first fault.
 ghost use Rattle.std.specs.Prelude.{◌≡◌, ◌==◌, ℕ, List, length, if◌then◌else◌, Result, Ok, Err};
+ghost use Rattle.std.specs.Option.{option_map};
 ghost use Rattle.ov_base.specs.Lines.{IsRead, TakesLine, read_text};
+ghost use Rattle.ov_base.specs.Split.{cut_at};
 
-use crate::split::split_at_byte;
+use memchr::memchr;
 use std::alloc::Global;
 
 /// Why a text of lines was not read.
@@ -52,7 +54,7 @@ pub fn read_lines<T: FromLines>(
     let mut read = empty;
     let mut line = 1;
     let mut rest = text;
-    while let Some((ended, others)) = split_at_byte(rest, b'\n') {
+    while let Some((ended, others)) = split_line(rest) {
         match read.take_line(alloc, line, ended) {
             Ok(()) => {}
             Err(error) => return Err(error),
@@ -61,6 +63,16 @@ pub fn read_lines<T: FromLines>(
         rest = others;
     }
     last_read(read, line, rest)
+}
+
+/// The first line without its line feed, and what stands behind it. None exactly where there is no line feed.
+fn split_line(text: &[u8]) -> Option<(&[u8], &[u8])>
+    ensures { option_map (λ p. (p.0.now, p.1.now)) result ≡ cut_at 10 text.now }
+{
+    match memchr(b'\n', text) {
+        Some(at) => Some((&text[..at], &text[at + 1..])),
+        None => None,
+    }
 }
 
 /// What was read, where nothing stands behind the last line feed.

@@ -1,11 +1,11 @@
 //! Whole numbers as words: decimal digits, without a sign and without a leading zero.
 ghost use Rattle.std.specs.Prelude.{◌≡◌, ◌++◌, decimal, OnOk, OnErr, IsTrue, ◌↔◌};
 ghost use Rattle.ov_base.specs.Word.{Reads};
-ghost use Rattle.ov_base.specs.Number.{IsWord64, IsWithin, IsPlain, number_of, number_within};
+ghost use Rattle.ov_base.specs.Number as spec;
+ghost use Rattle.ov_base.specs.Number.{IsWord64, IsWithin, IsPlain, number_of, number_within, value_after};
 
 use crate::memory::Memory;
 use itoa::Buffer;
-use std::str;
 
 /// The number that the bytes spell, up to `2^64 - 1`. None exactly where they spell none.
 pub fn parse_number(text: &[u8]) -> Option<u64>
@@ -21,9 +21,30 @@ fn plain_number(text: &[u8]) -> Option<u64>
     if !is_plain(text) {
         return None;
     }
-    match str::from_utf8(text) {
-        Ok(text) => text.parse::<u64>().ok(),
-        Err(_) => None,
+    digits_value(text)
+}
+
+/// The value of decimal digits, up to `2^64 - 1`. None where another byte stands among them, or where it is greater.
+fn digits_value(text: &[u8]) -> Option<u64>
+    ensures { result ≡ value_after 0 text.now }
+{
+    let mut number = 0;
+    let mut rest = text;
+    while let [first, others @ ..] = rest {
+        number = with_digit(number, *first)?;
+        rest = others;
+    }
+    Some(number)
+}
+
+/// The number with this digit behind it. None where the byte is no digit, or where the number is greater than `2^64 - 1`.
+fn with_digit(number: u64, byte: u8) -> Option<u64>
+    ensures { result ≡ spec.with_digit number byte }
+{
+    if b'0' <= byte && byte <= b'9' {
+        number.checked_mul(10)?.checked_add(u64::from(byte - b'0'))
+    } else {
+        None
     }
 }
 

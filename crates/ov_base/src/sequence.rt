@@ -1,5 +1,5 @@
 //! A `Vec` that contracts see as a list, for the fields of plain data.
-ghost use Rattle.std.specs.Prelude.{◌≡◌, [], ◌∷◌, ◌++◌, ◌==◌, length, OnOk, OnErr};
+ghost use Rattle.std.specs.Prelude.{◌≡◌, [], ◌∷◌, ◌++◌, ◌==◌, length, IfOk, OnOk, OnErr};
 ghost use Rattle.ov_base.specs.Exact.{lists_same};
 ghost use Rattle.ov_base.specs.Lemmas.{lists_same-per, lists_same-equiv, lists_same-exact};
 
@@ -33,6 +33,15 @@ impl<T> Sequence<T> {
         Sequence {
             items: Vec::new(alloc),
         }
+    }
+
+    /// The empty list, with room for so many items. The only error is out of memory.
+    pub fn with_capacity(alloc: Global, items: usize) -> Result<Sequence<T>, Memory>
+        ensures { IfOk result (λ s. s ≡ []) }
+    {
+        Ok(Sequence {
+            items: Vec::with_capacity(alloc, items)?,
+        })
     }
 
     /// An empty list of other items, over the same allocator. Does not allocate.
@@ -112,7 +121,7 @@ impl<T: Plain + Drop> Plain for Sequence<T> {
     ghost exact = { lists_same-exact T.PartialEq.eq T.exact };
 
     fn copy(&self) -> Result<Self, Memory> {
-        let mut copied = Sequence::new(*self.items.allocator());
+        let mut copied = Sequence::with_capacity(*self.items.allocator(), self.len())?;
         for item in self.as_slice() {
             copied.push(item.copy()?)?;
         }

@@ -8,7 +8,7 @@ use crate::memory::Memory;
 use std::alloc::Global;
 
 /// For so many parts there is room from the start.
-const FEW_PARTS: usize = 16;
+const FEW_PARTS: usize = 32;
 
 /// What stands before the first such byte, and what stands behind it; None exactly where the byte does
 /// not occur. Does not allocate.

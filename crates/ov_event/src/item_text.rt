@@ -64,7 +64,7 @@ fn is_blank(words: &[&[u8]]) -> bool
 pub fn items_in_groups(alloc: Global, groups: &[&[&[u8]]]) -> Result<Option<Vec<Item>>, Memory>
     ensures { IfOk result (λ o. option_map (λ v. v.items) o ≡ all_of item_of (groups_in groups.now)) }
 {
-    let mut items = Vec::new(alloc);
+    let mut items = Vec::with_capacity(alloc, groups.len())?;
     for group in groups {
         match item_read(alloc, group)? {
             None => return Ok(None),
@@ -184,7 +184,7 @@ fn moves_read(alloc: Global, words: &[&[u8]]) -> Result<Option<Vec<Move>>, Memor
     if words.len() % 4 != 0 {
         return Ok(None);
     }
-    let mut moves = Vec::new(alloc);
+    let mut moves = Vec::with_capacity(alloc, words.len() / 4)?;
     for index in 0..words.len() / 4 {
         let at = 4 * index;
         match move_read(words[at], words[at + 1], words[at + 2], words[at + 3]) {

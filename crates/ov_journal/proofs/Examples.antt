@@ -1,5 +1,5 @@
 -- Lines and their entries: each line of the kinds of a short journal is read as its entry, and is the text of that entry.
-use Rattle.std.proofs.Common.{◌≡◌, ℕ, pos, List, [], ◌∷◌, Some, None, codes, refl, arith}
+use Rattle.std.proofs.Common.{◌≡◌, ℕ, pos, [], ◌∷◌, Some, None, codes, refl, arith}
 use Rattle.std.specs.Fmt.{decimal}
 use Rattle.std.proofs.lemmas.Fmt.{decimal_digit}
 use Rattle.ov_base.specs.Amount.{amount_of}
@@ -17,7 +17,6 @@ use Rattle.ov_functor.specs.ReplyWords.{reply_of}
 use Rattle.ov_functor.specs.Words.{part_of}
 use Rattle.ov_functor.specs.declared.effect.Effect.TheVariants as effects
 use Rattle.ov_functor.specs.declared.item.Item.{Item}
-use Rattle.ov_functor.specs.declared.item.Shown.{Shown}
 use Rattle.ov_functor.specs.declared.part.Part.TheVariants as parts
 use Rattle.ov_functor.specs.declared.reply.Reply.TheVariants.{Done}
 use Rattle.ov_gossip.specs.declared.marks.Marks.{Marks}

@@ -3,7 +3,7 @@ use Rattle.std.proofs.Common.{◌≡◌, ℕ, ◌+◌, ◌≤◌, Bool, true, fa
 use Rattle.std.specs.Prelude.{⊤}
 use Rattle.std.specs.List.{slice_split, AllByRecursion}
 use Rattle.std.specs.Str.{bytes_eq}
-use Rattle.std.proofs.lemmas.Bool.{cases_Bool, eqb-true}
+use Rattle.std.proofs.lemmas.Bool.{eqb-true}
 use Rattle.std.proofs.lemmas.Bool.Decides.{eqb_tells}
 use Rattle.ov_base.specs.Lines.{Fault, at_line, read_from, lines_text}
 use Rattle.ov_base.specs.Split.{joined, lacks}
@@ -11,7 +11,7 @@ use Rattle.std.proofs.lemmas.List.{nil_from_length}
 use Rattle.std.proofs.lemmas.List.Splits.{slice_split_at}
 use Rattle.std.proofs.lemmas.List.Elements.{All-from_recursion}
 use Rattle.ov_base.proofs.Joins.{joined_split, lacks_each, split_some}
-use Rattle.ov_base.proofs.LineTexts.{Adds, Follows, Taken, follows_each, lines_split, pieces_again, pieces_of, pieces_take, read_line}
+use Rattle.ov_base.proofs.LineTexts.{Adds, Follows, follows_each, lines_split, pieces_again, pieces_of, pieces_take, read_line}
 use Rattle.ov_base.proofs.Readers.{word_is}
 use Rattle.ov_event.specs.declared.entry.Entry.{Entry}
 use Rattle.ov_journal.specs.Line.{HasLine, entry_text}

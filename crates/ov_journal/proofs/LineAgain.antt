@@ -1,5 +1,5 @@
 -- The line of an entry is read as that entry.
-use Rattle.std.proofs.Common.{◌≡◌, ℕ, ◌+◌, ◌-◌, ◌<◌, ◌≤◌, ◌^◌, true, false, List, [], ◌∷◌, ◌++◌, map, Some, refl, ap, ◌∙◌, arith, codes}
+use Rattle.std.proofs.Common.{◌≡◌, ℕ, true, false, List, [], ◌∷◌, ◌++◌, map, Some, refl, ap, ◌∙◌, arith, codes}
 use Rattle.std.specs.List.{AllByRecursion}
 use Rattle.std.specs.Fmt.{decimal}
 use Rattle.ov_base.specs.Groups.{groups_of, groups_text, is_separator}
@@ -18,26 +18,22 @@ use Rattle.ov_event.specs.declared.kind.Kind.TheVariants.{Began, Stored, Acked, 
 use Rattle.ov_event.specs.declared.start.Start.{Start}
 use Rattle.ov_event.specs.declared.start.Start.TheVariants.{Draw, Look}
 use Rattle.ov_event.proofs.ItemWords.{item_again, item_grouped}
-use Rattle.ov_functor.specs.ReplyWords.{IsReply, reply_words}
+use Rattle.ov_functor.specs.ReplyWords.{reply_words}
 use Rattle.ov_functor.specs.Words.{IsPart, part_words, part_of}
 use Rattle.ov_functor.specs.declared.item.Item.{Item}
 use Rattle.ov_functor.specs.declared.part.Part.{Part}
 use Rattle.ov_functor.proofs.PartWordsAgain.{part_again, part_grouped, parts_grouped}
 use Rattle.ov_functor.proofs.ReplyWords.{reply_again, reply_grouped}
-use Rattle.ov_gossip.specs.declared.marks.Marks.{Marks}
 use Rattle.ov_topology.specs.Actor.{IsActor, IsGate, IsSettler, actor_text, gate_text, node_text, settler_text}
-use Rattle.ov_topology.specs.Mode.{mode_text}
 use Rattle.ov_topology.specs.Place.{IsPlace}
 use Rattle.ov_topology.specs.declared.actor.Actor.{Actor}
 use Rattle.ov_topology.specs.declared.actor.Actor.TheVariants.{Gate, Node, Settler}
-use Rattle.ov_topology.specs.declared.mode.Mode.{Mode}
-use Rattle.ov_topology.specs.declared.mode.Mode.TheVariants.{Quorum, One}
 use Rattle.ov_topology.specs.declared.place.Place.{Place}
 use Rattle.ov_topology.proofs.Actors.{actor_again, actor_grouped, gate_again, gate_grouped, settler_again, settler_grouped, node_at_again, node_grouped}
 use Rattle.ov_topology.proofs.Modes.{mode_again, mode_grouped}
 use Rattle.ov_topology.proofs.Places.{place_at_again}
-use Rattle.ov_journal.specs.Line.{HasLine, IsBy, IsCommand, IsKeys, IsNodeAt, IsOfGate, IsOfNode, IsOfSettler, IsRound, IsStart, IsSpelledVector, IsValued, began_groups, commanded, entry_groups, entry_text, kind_groups, marks_words, parts_groups, placed, valued_words}
-use Rattle.ov_journal.specs.Read.{start_of, began_of, stored_of, acked_of, published_of, heard_of, asked_of, answered_of, taken_of, settled_of, resulted_of, replied_of, told_of, stopped_of, kind_of, actor_entry_of, entry_of_groups, entry_of}
+use Rattle.ov_journal.specs.Line.{HasLine, IsBy, IsCommand, IsOfGate, IsOfNode, IsOfSettler, IsRound, IsStart, began_groups, commanded, entry_groups, entry_text, kind_groups, marks_words, parts_groups, placed, valued_words}
+use Rattle.ov_journal.specs.Read.{began_of, stored_of, acked_of, published_of, heard_of, asked_of, answered_of, taken_of, settled_of, resulted_of, replied_of, told_of, stopped_of, entry_of_groups, entry_of}
 use Rattle.ov_journal.proofs.LineLists.{session_again, seq_again, round_again, time_again, vector_again, values_again, keys_again, vector_grouped, values_grouped, keys_grouped}
 
 -- ---- the words of each kind are read as it

@@ -1,16 +1,16 @@
 -- The numbers and lists of a line: what is read is in form and these are its words, and the words of what is in form are read as it.
-use Rattle.std.proofs.Common.{◌≡◌, ℕ, ◌+◌, ◌-◌, ◌<◌, ◌≤◌, ◌^◌, Bool, leb, ◌&&◌, not, true, false, List, [], ◌∷◌, map, length, Some, refl, ap, sym, subst, ◌∙◌, arith}
+use Rattle.std.proofs.Common.{◌≡◌, ℕ, ◌-◌, ◌<◌, ◌^◌, Bool, leb, ◌&&◌, not, true, false, List, [], ◌∷◌, map, length, Some, refl, ap, sym, subst, ◌∙◌, arith}
 use Rattle.std.specs.List.{AllByRecursion}
 use Rattle.std.specs.Fmt.{decimal}
 use Rattle.std.proofs.lemmas.Bool.{le-leb, leb-true, and_parts}
 use Rattle.std.proofs.lemmas.Option.{cond_some}
-use Rattle.ov_base.specs.Word.{◌>>=◌, itself}
+use Rattle.ov_base.specs.Word.{itself}
 use Rattle.ov_base.specs.Key.{IsKey, key_of, repeats}
 use Rattle.ov_base.specs.Split.{all_of}
-use Rattle.ov_base.specs.Value.{value_text, value_of}
-use Rattle.ov_base.specs.Version.{version_text, version_of}
+use Rattle.ov_base.specs.Value.{value_of}
+use Rattle.ov_base.specs.Version.{version_of}
 use Rattle.ov_base.proofs.GroupTexts.{IsGrouped}
-use Rattle.ov_base.proofs.GroupedWords.{key_grouped, number_grouped, value_grouped, version_grouped}
+use Rattle.ov_base.proofs.GroupedWords.{key_grouped, value_grouped, version_grouped}
 use Rattle.ov_base.proofs.Keys.{key_again, key_takes}
 use Rattle.ov_base.proofs.Numbers.{within_again, within_takes}
 use Rattle.ov_base.proofs.Readers.{bind_some}

@@ -1,9 +1,7 @@
 -- An entry that is read of a line has a line, and it is that line.
-use Rattle.std.proofs.Common.{◌≡◌, ℕ, true, cond, List, [], ◌∷◌, ◌++◌, map, Option, Some, None, Result, Ok, Err, refl, sym, ap, subst, ◌∙◌, codes}
+use Rattle.std.proofs.Common.{◌≡◌, ℕ, true, List, [], ◌∷◌, map, Option, Some, None, refl, sym, ap, subst, ◌∙◌, codes}
 use Rattle.std.specs.List.{AllByRecursion}
 use Rattle.std.specs.Str.{bytes_eq}
-use Rattle.std.specs.Fmt.{decimal}
-use Rattle.ov_base.specs.Word.{◌>>=◌}
 use Rattle.ov_base.specs.Groups.{groups_of, groups_text}
 use Rattle.ov_base.specs.Split.{all_of}
 use Rattle.ov_base.specs.Version.{version_text, version_of}
@@ -19,7 +17,7 @@ use Rattle.ov_event.specs.declared.start.Start.{Start}
 use Rattle.ov_event.specs.declared.start.Start.TheVariants.{Draw, Look}
 use Rattle.ov_event.proofs.ItemWords.{item_takes}
 use Rattle.ov_functor.specs.ReplyWords.{reply_of}
-use Rattle.ov_functor.specs.Transaction.{IsTransaction, transaction_error, made_by}
+use Rattle.ov_functor.specs.Transaction.{transaction_error, made_by}
 use Rattle.ov_functor.specs.Words.{IsPart, IsParts, part_words, part_of, parts_in}
 use Rattle.ov_functor.specs.declared.error.TxnError.{TxnError}
 use Rattle.ov_functor.specs.declared.part.Part.{Part}
@@ -34,7 +32,7 @@ use Rattle.ov_topology.specs.declared.actor.Actor.TheVariants.{Gate, Node, Settl
 use Rattle.ov_topology.proofs.Actors.{actor_takes, gate_takes, settler_takes, node_at_takes}
 use Rattle.ov_topology.proofs.Modes.{mode_takes}
 use Rattle.ov_topology.proofs.Places.{place_at_takes}
-use Rattle.ov_journal.specs.Line.{HasLine, IsBy, IsOfGate, IsOfNode, IsOfSettler, IsStart, IsSpelledVector, began_groups, commanded, entry_groups, entry_text, kind_groups, parts_groups}
+use Rattle.ov_journal.specs.Line.{HasLine, IsBy, IsOfGate, IsOfNode, IsOfSettler, IsStart, began_groups, commanded, entry_groups, entry_text, kind_groups}
 use Rattle.ov_journal.specs.Read.{session_of, seq_of, round_of, time_of, vector_of, valued_of, keys_of, start_with, draw_of, look_of, start_of, alone, began_of, stored_of, acked_of, published_of, heard_of, asked_of, answered_of, taken_of, settled_of, resulted_of, replied_of, told_of, stopped_of, gate_kind_of, node_kind_of, settler_kind_of, kind_of, actor_entry_of, entry_of_groups, entry_of}
 use Rattle.ov_journal.proofs.LineLists.{command_takes, round_takes, time_takes, vector_takes, values_takes, keys_takes}
 

@@ -1,5 +1,5 @@
 -- The line of an entry is the word of its actor, a space, and the pieces that are written behind it.
-use Rattle.std.proofs.Common.{◌≡◌, ℕ, List, [], ◌∷◌, ◌++◌, map, refl, sym, ap, subst, ◌∙◌, append_assoc, codes}
+use Rattle.std.proofs.Common.{◌≡◌, ℕ, List, [], ◌∷◌, ◌++◌, map, refl, ap, subst, ◌∙◌, append_assoc, codes}
 use Rattle.std.specs.List.{flat_map}
 use Rattle.std.specs.Fmt.{decimal}
 use Rattle.ov_base.specs.Groups.{groups_text}
@@ -25,7 +25,7 @@ use Rattle.ov_gossip.specs.declared.marks.Marks.{Marks}
 use Rattle.ov_topology.specs.Actor.{actor_text, gate_text, node_text, settler_text}
 use Rattle.ov_topology.specs.declared.actor.Actor.{Actor}
 use Rattle.ov_topology.specs.declared.actor.Actor.TheVariants.{Gate, Node, Settler}
-use Rattle.ov_journal.specs.Line.{HasLine, IsBy, IsOfGate, IsOfNode, IsOfSettler, commanded, entry_groups, entry_text, kind_groups, marks_words, parts_groups, placed, valued_words}
+use Rattle.ov_journal.specs.Line.{HasLine, IsBy, IsOfGate, IsOfNode, IsOfSettler, commanded, entry_text, kind_groups, marks_words, parts_groups, placed, valued_words}
 use Rattle.ov_journal.specs.Text.{key_text, kind_text, vector_text, values_text}
 
 -- words, and behind them those of a part or of a reply

@@ -1,5 +1,5 @@
 -- Reading the line of an entry: by its actor, the word of its kind, and the words and groups behind that.
-use Rattle.std.specs.Prelude.{ℕ, ◌-◌, ◌^◌, ◌&&◌, not, nat_le, nat_lt, List, [], ◌∷◌, length, codes, Option, Some, None, Result, Ok, Err, if◌then◌else◌}
+use Rattle.std.specs.Prelude.{ℕ, ◌-◌, ◌^◌, Bool, true, false, ◌&&◌, not, nat_le, List, [], ◌∷◌, ◌++◌, length, codes, Option, Some, None, Result, Ok, Err, if◌then◌else◌}
 use Rattle.std.specs.Str.{bytes_eq}
 use Rattle.ov_base.specs.Word.{◌>>=◌}
 use Rattle.ov_base.specs.Groups.{groups_of}
@@ -237,6 +237,16 @@ stopped_of [] = Some Stopped
 stopped_of (word ∷ words) = None
 
 -- ---- a line
+
+-- whether what an actor did was read, and the entries, with that of it behind them
+abbrev pub added : List Entry → Actor → Option Kind → Bool × List Entry
+added entries actor None = (false, entries)
+added entries actor (Some kind) = (true, entries ++ record { actor = actor; kind = kind } ∷ [])
+
+-- whether an entry was read, and the entries, with it behind them
+abbrev pub added_entry : List Entry → Option Entry → Bool × List Entry
+added_entry entries None = (false, entries)
+added_entry entries (Some entry) = (true, entries ++ entry ∷ [])
 
 -- what a gateway did, by the word of its kind
 abbrev pub gate_kind_of : List ℕ → List (List ℕ) → List (List (List ℕ)) → Option Kind

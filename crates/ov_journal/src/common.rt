@@ -1,52 +1,66 @@
 //! Reading what actors of more than one sort do.
-ghost use Rattle.std.specs.Prelude.{◌≡◌, IfOk};
+ghost use Rattle.std.specs.Prelude.{◌≡◌, Some, IfOk};
 ghost use Rattle.ov_base.specs.Groups.{groups_in, words_in};
 ghost use Rattle.ov_journal.specs.Read as spec;
 
 use crate::list::parse_vector;
-use ov_base::Memory;
-use ov_event::Kind;
-use ov_topology::Place;
+use ov_base::{Memory, Sequence};
+use ov_event::{Entry, Kind};
+use ov_topology::{Actor, Place};
 use std::alloc::Global;
 
-/// What was read, where no group stands behind it.
-pub(crate) fn alone(groups: &[&[&[u8]]], read: Option<Kind>) -> Option<Kind>
-    ensures { result ≡ spec.alone (groups_in groups.now) read }
+/// Adds what the actor did behind the entries; true. The only error is out of memory.
+pub(crate) fn add_kind(
+    actor: Actor,
+    kind: Kind,
+    entries: &mut Sequence<Entry>,
+) -> Result<bool, Memory>
+    ensures { IfOk result (λ read. (read, entries.new) ≡ spec.added entries.old actor (Some kind)) }
 {
-    match groups {
-        [] => read,
-        [_, ..] => None,
-    }
+    entries.push(Entry { actor, kind })?;
+    Ok(true)
 }
 
 #[tactic(auto, unfolding(crate::specs::Read::heard_of))]
-pub(crate) fn parse_heard(
+pub(crate) fn add_heard(
     alloc: Global,
+    actor: Actor,
     words: &[&[u8]],
     groups: &[&[&[u8]]],
-) -> Result<Option<Kind>, Memory>
-    ensures { IfOk result (λ kind. kind ≡ spec.heard_of (words_in words.now) (groups_in groups.now)) }
+    entries: &mut Sequence<Entry>,
+) -> Result<bool, Memory>
+    ensures { IfOk result (λ read. (read, entries.new)
+        ≡ spec.added entries.old actor (spec.heard_of (words_in words.now) (groups_in groups.now))) }
 {
     match words {
         [entry, letter] => {
             let Some(place) = Place::from_words(entry, letter) else {
-                return Ok(None);
+                return Ok(false);
             };
             match parse_vector(alloc, groups)? {
-                None => Ok(None),
-                Some(vector) => Ok(Some(Kind::Heard { place, vector })),
+                None => Ok(false),
+                Some(vector) => add_kind(actor, Kind::Heard { place, vector }, entries),
             }
         }
-        _ => Ok(None),
+        _ => Ok(false),
     }
 }
 
 #[tactic(auto, unfolding(crate::specs::Read::stopped_of))]
-pub(crate) fn parse_stopped(words: &[&[u8]]) -> Option<Kind>
-    ensures { result ≡ spec.stopped_of (words_in words.now) }
+pub(crate) fn add_stopped(
+    actor: Actor,
+    words: &[&[u8]],
+    groups: &[&[&[u8]]],
+    entries: &mut Sequence<Entry>,
+) -> Result<bool, Memory>
+    ensures { IfOk result (λ read. (read, entries.new)
+        ≡ spec.added entries.old actor (spec.alone (groups_in groups.now) (spec.stopped_of (words_in words.now)))) }
 {
-    match words {
-        [] => Some(Kind::Stopped),
-        [_, ..] => None,
+    match groups {
+        [_, ..] => Ok(false),
+        [] => match words {
+            [] => add_kind(actor, Kind::Stopped, entries),
+            [_, ..] => Ok(false),
+        },
     }
 }

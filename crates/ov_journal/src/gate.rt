@@ -3,155 +3,214 @@ ghost use Rattle.std.specs.Prelude.{◌≡◌, IfOk};
 ghost use Rattle.ov_base.specs.Groups.{groups_in, words_in};
 ghost use Rattle.ov_journal.specs.Read as spec;
 
-use crate::common::{alone, parse_heard, parse_stopped};
+use crate::common::{add_heard, add_kind, add_stopped};
 use crate::list::parse_vector;
 use crate::start::parse_start;
 use crate::word::{parse_seq, parse_session, parse_time};
-use ov_base::{Memory, Version};
-use ov_event::Kind;
+use ov_base::{Memory, Sequence, Version};
+use ov_event::{Entry, Kind};
 use ov_functor::Reply;
-use ov_topology::{Place, parse_node};
+use ov_topology::{Actor, Place, parse_node};
 use std::alloc::Global;
 
-/// What a gateway did, by the word of its kind.
-pub(crate) fn parse_gate_kind(
+/// Adds what a gateway did behind the entries, by the word of its kind; whether it was read. The only error is out of
+/// memory.
+pub(crate) fn add_gate_kind(
     alloc: Global,
+    actor: Actor,
     word: &[u8],
     words: &[&[u8]],
     groups: &[&[&[u8]]],
-) -> Result<Option<Kind>, Memory>
-    ensures { IfOk result (λ kind. kind ≡ spec.gate_kind_of word.now (words_in words.now) (groups_in groups.now)) }
+    entries: &mut Sequence<Entry>,
+) -> Result<bool, Memory>
+    ensures { IfOk result (λ read. (read, entries.new)
+        ≡ spec.added entries.old actor (spec.gate_kind_of word.now (words_in words.now) (groups_in groups.now))) }
 {
     if word == b"began".as_slice() {
-        parse_began(alloc, words, groups)
+        add_began(alloc, actor, words, groups, entries)
     } else if word == b"acked".as_slice() {
-        Ok(alone(groups, parse_acked(words)))
+        match groups {
+            [] => add_acked(actor, words, entries),
+            [_, ..] => Ok(false),
+        }
     } else if word == b"published".as_slice() {
-        parse_published(alloc, words, groups)
+        add_published(alloc, actor, words, groups, entries)
     } else if word == b"heard".as_slice() {
-        parse_heard(alloc, words, groups)
+        add_heard(alloc, actor, words, groups, entries)
     } else if word == b"replied".as_slice() {
-        Ok(alone(groups, parse_replied(alloc, words)?))
+        match groups {
+            [] => add_replied(alloc, actor, words, entries),
+            [_, ..] => Ok(false),
+        }
     } else if word == b"told".as_slice() {
-        Ok(alone(groups, parse_told(words)))
+        match groups {
+            [] => add_told(actor, words, entries),
+            [_, ..] => Ok(false),
+        }
     } else if word == b"stopped".as_slice() {
-        Ok(alone(groups, parse_stopped(words)))
+        add_stopped(actor, words, groups, entries)
     } else {
-        Ok(None)
+        Ok(false)
     }
 }
 
 #[tactic(auto, unfolding(crate::specs::Read::began_of))]
-fn parse_began(alloc: Global, words: &[&[u8]], groups: &[&[&[u8]]]) -> Result<Option<Kind>, Memory>
-    ensures { IfOk result (λ kind. kind ≡ spec.began_of (words_in words.now) (groups_in groups.now)) }
+fn add_began(
+    alloc: Global,
+    actor: Actor,
+    words: &[&[u8]],
+    groups: &[&[&[u8]]],
+    entries: &mut Sequence<Entry>,
+) -> Result<bool, Memory>
+    ensures { IfOk result (λ read. (read, entries.new)
+        ≡ spec.added entries.old actor (spec.began_of (words_in words.now) (groups_in groups.now))) }
 {
     match words {
         [session, seq, word, version, words @ ..] => {
             let Some(session) = parse_session(session) else {
-                return Ok(None);
+                return Ok(false);
             };
             let Some(seq) = parse_seq(seq) else {
-                return Ok(None);
+                return Ok(false);
             };
             match parse_start(alloc, word, version, words, groups)? {
-                None => Ok(None),
-                Some(start) => Ok(Some(Kind::Began {
-                    session,
-                    seq,
-                    start,
-                })),
+                None => Ok(false),
+                Some(start) => add_kind(
+                    actor,
+                    Kind::Began {
+                        session,
+                        seq,
+                        start,
+                    },
+                    entries,
+                ),
             }
         }
-        _ => Ok(None),
+        _ => Ok(false),
     }
 }
 
 #[tactic(auto, unfolding(crate::specs::Read::acked_of))]
-fn parse_acked(words: &[&[u8]]) -> Option<Kind>
-    ensures { result ≡ spec.acked_of (words_in words.now) }
+fn add_acked(actor: Actor, words: &[&[u8]], entries: &mut Sequence<Entry>) -> Result<bool, Memory>
+    ensures { IfOk result (λ read. (read, entries.new)
+        ≡ spec.added entries.old actor (spec.acked_of (words_in words.now))) }
 {
     match words {
         [entry, letter, version, node] => {
-            let place = Place::from_words(entry, letter)?;
-            let version = Version::parse(version)?;
-            let (centre, part) = parse_node(node)?;
-            Some(Kind::Acked {
-                place,
-                version,
-                centre,
-                part,
-            })
+            let Some(place) = Place::from_words(entry, letter) else {
+                return Ok(false);
+            };
+            let Some(version) = Version::parse(version) else {
+                return Ok(false);
+            };
+            let Some((centre, part)) = parse_node(node) else {
+                return Ok(false);
+            };
+            add_kind(
+                actor,
+                Kind::Acked {
+                    place,
+                    version,
+                    centre,
+                    part,
+                },
+                entries,
+            )
         }
-        _ => None,
+        _ => Ok(false),
     }
 }
 
 #[tactic(auto, unfolding(crate::specs::Read::published_of))]
-fn parse_published(
+fn add_published(
     alloc: Global,
+    actor: Actor,
     words: &[&[u8]],
     groups: &[&[&[u8]]],
-) -> Result<Option<Kind>, Memory>
-    ensures { IfOk result (λ kind. kind ≡ spec.published_of (words_in words.now) (groups_in groups.now)) }
+    entries: &mut Sequence<Entry>,
+) -> Result<bool, Memory>
+    ensures { IfOk result (λ read. (read, entries.new)
+        ≡ spec.added entries.old actor (spec.published_of (words_in words.now) (groups_in groups.now))) }
 {
     match words {
         [time] => {
             let Some(time) = parse_time(time) else {
-                return Ok(None);
+                return Ok(false);
             };
             match parse_vector(alloc, groups)? {
-                None => Ok(None),
-                Some(vector) => Ok(Some(Kind::Published { time, vector })),
+                None => Ok(false),
+                Some(vector) => add_kind(actor, Kind::Published { time, vector }, entries),
             }
         }
-        _ => Ok(None),
+        _ => Ok(false),
     }
 }
 
 #[tactic(auto, unfolding(crate::specs::Read::replied_of))]
-fn parse_replied(alloc: Global, words: &[&[u8]]) -> Result<Option<Kind>, Memory>
-    ensures { IfOk result (λ kind. kind ≡ spec.replied_of (words_in words.now)) }
+fn add_replied(
+    alloc: Global,
+    actor: Actor,
+    words: &[&[u8]],
+    entries: &mut Sequence<Entry>,
+) -> Result<bool, Memory>
+    ensures { IfOk result (λ read. (read, entries.new)
+        ≡ spec.added entries.old actor (spec.replied_of (words_in words.now))) }
 {
     match words {
         [entry, letter, session, seq, words @ ..] => {
             let Some(place) = Place::from_words(entry, letter) else {
-                return Ok(None);
+                return Ok(false);
             };
             let Some(session) = parse_session(session) else {
-                return Ok(None);
+                return Ok(false);
             };
             let Some(seq) = parse_seq(seq) else {
-                return Ok(None);
+                return Ok(false);
             };
             match Reply::from_words(alloc, words)? {
-                None => Ok(None),
-                Some(reply) => Ok(Some(Kind::Replied {
-                    place,
-                    session,
-                    seq,
-                    reply,
-                })),
+                None => Ok(false),
+                Some(reply) => add_kind(
+                    actor,
+                    Kind::Replied {
+                        place,
+                        session,
+                        seq,
+                        reply,
+                    },
+                    entries,
+                ),
             }
         }
-        _ => Ok(None),
+        _ => Ok(false),
     }
 }
 
 #[tactic(auto, unfolding(crate::specs::Read::told_of))]
-fn parse_told(words: &[&[u8]]) -> Option<Kind>
-    ensures { result ≡ spec.told_of (words_in words.now) }
+fn add_told(actor: Actor, words: &[&[u8]], entries: &mut Sequence<Entry>) -> Result<bool, Memory>
+    ensures { IfOk result (λ read. (read, entries.new)
+        ≡ spec.added entries.old actor (spec.told_of (words_in words.now))) }
 {
     match words {
         [entry, letter, session, seq] => {
-            let place = Place::from_words(entry, letter)?;
-            let session = parse_session(session)?;
-            let seq = parse_seq(seq)?;
-            Some(Kind::Told {
-                place,
-                session,
-                seq,
-            })
+            let Some(place) = Place::from_words(entry, letter) else {
+                return Ok(false);
+            };
+            let Some(session) = parse_session(session) else {
+                return Ok(false);
+            };
+            let Some(seq) = parse_seq(seq) else {
+                return Ok(false);
+            };
+            add_kind(
+                actor,
+                Kind::Told {
+                    place,
+                    session,
+                    seq,
+                },
+                entries,
+            )
         }
-        _ => None,
+        _ => Ok(false),
     }
 }

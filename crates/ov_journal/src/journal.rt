@@ -4,11 +4,11 @@ ghost use Rattle.std.specs.List.{AllByRecursion};
 ghost use Rattle.ov_base.specs.Lines.{TakesLine, lines_text};
 ghost use Rattle.ov_io.specs.Causes.{Rose, Wrote, WroteFront};
 ghost use Rattle.ov_journal.specs.Journal as spec;
-ghost use Rattle.ov_journal.specs.Journal.{Gives, entry_read, first_read, journal_of, journal_text, line_read};
+ghost use Rattle.ov_journal.specs.Journal.{Gives, first_read, journal_of, journal_text, line_read};
 ghost use Rattle.ov_journal.specs.Line.{HasLine, entry_text};
 
 use crate::error::JournalError;
-use crate::line::entry_read;
+use crate::line::add_entry;
 use crate::print::print_into;
 use ov_base::{FromLines, LineError, Memory, Sequence, read_lines};
 use ov_event::Entry;
@@ -18,6 +18,12 @@ use std::marker::Model;
 
 /// The first line.
 const FIRST_LINE: &[u8] = b"oceanvista journal 1";
+
+/// The fewest bytes of the line of an entry, with its line feed: those of `g0 stopped`.
+const SHORTEST_LINE: usize = 11;
+
+/// By so many bytes the length of the lines of a journal is told.
+const FIRST_BYTES: usize = 4096;
 
 // ---- reading
 
@@ -44,13 +50,31 @@ fn lines_read(alloc: Global, bytes: &[u8]) -> Result<Vec<Entry>, JournalError>
     ensures { Gives (λ entries. entries.items) result (spec.numbered (spec.lines_of bytes.now)) }
 {
     let empty = Entries {
-        entries: Sequence::new(alloc),
+        entries: room_for(alloc, bytes),
     };
     match read_lines(alloc, empty, bytes) {
         Ok(read) => Ok(read.entries.into_vec()),
         Err(LineError::Memory) => Err(JournalError::Memory),
         Err(LineError::Line { line, .. }) => Err(JournalError::Line(line)),
     }
+}
+
+/// No entries, with room for about as many as the bytes have lines, where memory has it.
+fn room_for(alloc: Global, bytes: &[u8]) -> Sequence<Entry>
+    ensures { result ≡ [] }
+{
+    match Sequence::with_capacity(alloc, about_lines(bytes)) {
+        Ok(entries) => entries,
+        Err(_) => Sequence::new(alloc),
+    }
+}
+
+/// About how many lines of entries the bytes are: as many as if all of them were like the first ones. Does not allocate.
+fn about_lines(bytes: &[u8]) -> usize {
+    let first = &bytes[..bytes.len().min(FIRST_BYTES)];
+    let lines = first.iter().filter(|byte| **byte == b'\n').count();
+    let times = bytes.len() / FIRST_BYTES + 1;
+    lines.saturating_mul(times).min(bytes.len() / SHORTEST_LINE)
 }
 
 /// The entries of the lines that were read. Contracts see the list.
@@ -79,10 +103,10 @@ impl FromLines for Entries {
         if line == 1 {
             return take_first(line, text);
         }
-        match entry_read(alloc, text) {
+        match add_entry(alloc, text, &mut self.entries) {
             Err(_) => Err(LineError::Memory),
-            Ok(None) => Err(LineError::Line { line, fault: () }),
-            Ok(Some(entry)) => push_entry(&mut self.entries, entry),
+            Ok(false) => Err(LineError::Line { line, fault: () }),
+            Ok(true) => Ok(()),
         }
     }
 
@@ -97,16 +121,6 @@ fn take_first(line: u64, text: &[u8]) -> Result<(), LineError<()>>
         Ok(())
     } else {
         Err(LineError::Line { line, fault: () })
-    }
-}
-
-fn push_entry(entries: &mut Sequence<Entry>, entry: Entry) -> Result<(), LineError<()>>
-    ensures added { OnOk result (entries.new ≡ entries.old ++ entry ∷ []) }
-    ensures memory { IfErr result (λ error. error ≡ LineError.Memory) }
-{
-    match entries.push(entry) {
-        Ok(()) => Ok(()),
-        Err(_) => Err(LineError::Memory),
     }
 }
 

@@ -4,13 +4,13 @@ ghost use Rattle.ov_base.specs.Groups.{groups_in, words_in};
 ghost use Rattle.ov_base.specs.Word.{Reads};
 ghost use Rattle.ov_journal.specs.Line.{HasLine, entry_text};
 ghost use Rattle.ov_journal.specs.Read as spec;
-ghost use Rattle.ov_journal.specs.Read.{entry_of, entry_of_groups};
+ghost use Rattle.ov_journal.specs.Read.{added_entry, entry_of, entry_of_groups};
 
-use crate::gate::parse_gate_kind;
-use crate::node::parse_node_kind;
-use crate::settler::parse_settler_kind;
-use ov_base::{Memory, groups_at, parts_at};
-use ov_event::{Entry, Kind};
+use crate::gate::add_gate_kind;
+use crate::node::add_node_kind;
+use crate::settler::add_settler_kind;
+use ov_base::{Memory, Sequence, groups_at, parts_at};
+use ov_event::Entry;
 use ov_topology::Actor;
 use std::alloc::Global;
 
@@ -23,66 +23,95 @@ pub fn parse_entry(alloc: Global, text: &[u8]) -> Result<Option<Entry>, Memory>
     entry_read(alloc, text)
 }
 
-pub(crate) fn entry_read(alloc: Global, text: &[u8]) -> Result<Option<Entry>, Memory>
+fn entry_read(alloc: Global, text: &[u8]) -> Result<Option<Entry>, Memory>
     ensures { IfOk result (λ entry. entry ≡ entry_of text.now) }
+{
+    let mut entries = Sequence::with_capacity(alloc, 1)?;
+    if add_entry(alloc, text, &mut entries)? {
+        Ok(entries.into_vec().pop())
+    } else {
+        Ok(None)
+    }
+}
+
+/// Adds the entry of a line, without its line feed, behind the entries; whether the bytes are the line of one. The only
+/// error is out of memory.
+pub(crate) fn add_entry(
+    alloc: Global,
+    text: &[u8],
+    entries: &mut Sequence<Entry>,
+) -> Result<bool, Memory>
+    ensures { IfOk result (λ read. (read, entries.new) ≡ added_entry entries.old (entry_of text.now)) }
 {
     let words = parts_at(alloc, text, b' ')?;
     let groups = groups_at(alloc, words.as_slice())?;
-    parse_groups(alloc, groups.as_slice())
+    add_groups(alloc, groups.as_slice(), entries)
 }
 
-/// The entry of the groups of a line: an actor, the word of a kind, and what stands behind them.
+/// Adds the entry of the groups of a line: an actor, the word of a kind, and what stands behind them.
 #[tactic(auto, unfolding(crate::specs::Read::entry_of_groups))]
-fn parse_groups(alloc: Global, groups: &[&[&[u8]]]) -> Result<Option<Entry>, Memory>
-    ensures { IfOk result (λ entry. entry ≡ entry_of_groups (groups_in groups.now)) }
+fn add_groups(
+    alloc: Global,
+    groups: &[&[&[u8]]],
+    entries: &mut Sequence<Entry>,
+) -> Result<bool, Memory>
+    ensures { IfOk result (λ read. (read, entries.new)
+        ≡ added_entry entries.old (entry_of_groups (groups_in groups.now))) }
 {
     match groups {
-        [] => Ok(None),
-        [first, others @ ..] => parse_first(alloc, first, others),
+        [] => Ok(false),
+        [first, others @ ..] => add_first(alloc, first, others, entries),
     }
 }
 
 #[tactic(auto, unfolding(crate::specs::Read::entry_of_groups))]
-fn parse_first(alloc: Global, first: &[&[u8]], others: &[&[&[u8]]]) -> Result<Option<Entry>, Memory>
-    ensures { IfOk result (λ entry. entry ≡ entry_of_groups (words_in first.now ∷ groups_in others.now)) }
+fn add_first(
+    alloc: Global,
+    first: &[&[u8]],
+    others: &[&[&[u8]]],
+    entries: &mut Sequence<Entry>,
+) -> Result<bool, Memory>
+    ensures { IfOk result (λ read. (read, entries.new)
+        ≡ added_entry entries.old (entry_of_groups (words_in first.now ∷ groups_in others.now))) }
 {
     match first {
-        [actor, word, words @ ..] => parse_actor_entry(alloc, actor, word, words, others),
-        _ => Ok(None),
+        [actor, word, words @ ..] => add_actor_entry(alloc, actor, word, words, others, entries),
+        _ => Ok(false),
     }
 }
 
-fn parse_actor_entry(
+fn add_actor_entry(
     alloc: Global,
     actor: &[u8],
     word: &[u8],
     words: &[&[u8]],
     groups: &[&[&[u8]]],
-) -> Result<Option<Entry>, Memory>
-    ensures { IfOk result (λ entry. entry ≡ spec.actor_entry_of actor.now word.now (words_in words.now) (groups_in groups.now)) }
+    entries: &mut Sequence<Entry>,
+) -> Result<bool, Memory>
+    ensures { IfOk result (λ read. (read, entries.new) ≡ added_entry entries.old
+        (spec.actor_entry_of actor.now word.now (words_in words.now) (groups_in groups.now))) }
 {
-    let Some(actor) = Actor::parse(actor) else {
-        return Ok(None);
-    };
-    match parse_kind(alloc, &actor, word, words, groups)? {
-        None => Ok(None),
-        Some(kind) => Ok(Some(Entry { actor, kind })),
+    match Actor::parse(actor) {
+        None => Ok(false),
+        Some(actor) => add_by(alloc, actor, word, words, groups, entries),
     }
 }
 
-/// What this actor did.
-fn parse_kind(
+/// Adds what this actor did.
+fn add_by(
     alloc: Global,
-    actor: &Actor,
+    actor: Actor,
     word: &[u8],
     words: &[&[u8]],
     groups: &[&[&[u8]]],
-) -> Result<Option<Kind>, Memory>
-    ensures { IfOk result (λ kind. kind ≡ spec.kind_of actor.now word.now (words_in words.now) (groups_in groups.now)) }
+    entries: &mut Sequence<Entry>,
+) -> Result<bool, Memory>
+    ensures { IfOk result (λ read. (read, entries.new)
+        ≡ spec.added entries.old actor (spec.kind_of actor word.now (words_in words.now) (groups_in groups.now))) }
 {
     match actor {
-        Actor::Gate(_) => parse_gate_kind(alloc, word, words, groups),
-        Actor::Node { .. } => parse_node_kind(alloc, word, words, groups),
-        Actor::Settler(_) => parse_settler_kind(alloc, word, words, groups),
+        Actor::Gate(_) => add_gate_kind(alloc, actor, word, words, groups, entries),
+        Actor::Node { .. } => add_node_kind(alloc, actor, word, words, groups, entries),
+        Actor::Settler(_) => add_settler_kind(alloc, actor, word, words, groups, entries),
     }
 }

@@ -46,7 +46,7 @@ fn vector_with(marks: &[Marks]) -> Option<Vector>
 fn marks_from(alloc: Global, groups: &[&[&[u8]]]) -> Result<Option<Sequence<Marks>>, Memory>
     ensures { IfOk result (λ marks. marks ≡ all_of marks_of (groups_in groups.now)) }
 {
-    let mut all = Sequence::new(alloc);
+    let mut all = Sequence::with_capacity(alloc, groups.len())?;
     for group in groups {
         match parse_marks(group) {
             None => return Ok(None),
@@ -80,7 +80,7 @@ pub(crate) fn parse_values(
 ) -> Result<Option<Sequence<Valued>>, Memory>
     ensures { IfOk result (λ values. values ≡ all_of valued_of (groups_in groups.now)) }
 {
-    let mut values = Sequence::new(alloc);
+    let mut values = Sequence::with_capacity(alloc, groups.len())?;
     for group in groups {
         match parse_valued(group) {
             None => return Ok(None),
@@ -159,7 +159,7 @@ fn keys_with(keys: Sequence<Key>) -> Option<Sequence<Key>>
 fn keys_from(alloc: Global, words: &[&[u8]]) -> Result<Option<Sequence<Key>>, Memory>
     ensures { IfOk result (λ keys. keys ≡ all_of key_of (words_in words.now)) }
 {
-    let mut keys = Sequence::new(alloc);
+    let mut keys = Sequence::with_capacity(alloc, words.len())?;
     for word in words {
         match Key::from_bytes(word) {
             None => return Ok(None),

@@ -3,88 +3,110 @@ ghost use Rattle.std.specs.Prelude.{◌≡◌, IfOk};
 ghost use Rattle.ov_base.specs.Groups.{groups_in, words_in};
 ghost use Rattle.ov_journal.specs.Read as spec;
 
-use crate::common::{alone, parse_stopped};
+use crate::common::{add_kind, add_stopped};
 use crate::list::parse_items;
 use crate::word::parse_round;
-use ov_base::{Memory, Version};
-use ov_event::Kind;
-use ov_topology::{Place, parse_settler};
+use ov_base::{Memory, Sequence, Version};
+use ov_event::{Entry, Kind};
+use ov_topology::{Actor, Place, parse_settler};
 use std::alloc::Global;
 
-/// What a node did, by the word of its kind.
-pub(crate) fn parse_node_kind(
+/// Adds what a node did behind the entries, by the word of its kind; whether it was read. The only error is out of
+/// memory.
+pub(crate) fn add_node_kind(
     alloc: Global,
+    actor: Actor,
     word: &[u8],
     words: &[&[u8]],
     groups: &[&[&[u8]]],
-) -> Result<Option<Kind>, Memory>
-    ensures { IfOk result (λ kind. kind ≡ spec.node_kind_of word.now (words_in words.now) (groups_in groups.now)) }
+    entries: &mut Sequence<Entry>,
+) -> Result<bool, Memory>
+    ensures { IfOk result (λ read. (read, entries.new)
+        ≡ spec.added entries.old actor (spec.node_kind_of word.now (words_in words.now) (groups_in groups.now))) }
 {
     if word == b"stored".as_slice() {
-        parse_stored(alloc, words, groups)
+        add_stored(alloc, actor, words, groups, entries)
     } else if word == b"answered".as_slice() {
-        parse_answered(alloc, words, groups)
+        add_answered(alloc, actor, words, groups, entries)
     } else if word == b"stopped".as_slice() {
-        Ok(alone(groups, parse_stopped(words)))
+        add_stopped(actor, words, groups, entries)
     } else {
-        Ok(None)
+        Ok(false)
     }
 }
 
 #[tactic(auto, unfolding(crate::specs::Read::stored_of))]
-fn parse_stored(alloc: Global, words: &[&[u8]], groups: &[&[&[u8]]]) -> Result<Option<Kind>, Memory>
-    ensures { IfOk result (λ kind. kind ≡ spec.stored_of (words_in words.now) (groups_in groups.now)) }
+fn add_stored(
+    alloc: Global,
+    actor: Actor,
+    words: &[&[u8]],
+    groups: &[&[&[u8]]],
+    entries: &mut Sequence<Entry>,
+) -> Result<bool, Memory>
+    ensures { IfOk result (λ read. (read, entries.new)
+        ≡ spec.added entries.old actor (spec.stored_of (words_in words.now) (groups_in groups.now))) }
 {
     match words {
         [entry, letter, version] => {
             let Some(place) = Place::from_words(entry, letter) else {
-                return Ok(None);
+                return Ok(false);
             };
             let Some(version) = Version::parse(version) else {
-                return Ok(None);
+                return Ok(false);
             };
             match parse_items(alloc, groups)? {
-                None => Ok(None),
-                Some(items) => Ok(Some(Kind::Stored {
-                    place,
-                    version,
-                    items,
-                })),
+                None => Ok(false),
+                Some(items) => add_kind(
+                    actor,
+                    Kind::Stored {
+                        place,
+                        version,
+                        items,
+                    },
+                    entries,
+                ),
             }
         }
-        _ => Ok(None),
+        _ => Ok(false),
     }
 }
 
 #[tactic(auto, unfolding(crate::specs::Read::answered_of))]
-fn parse_answered(
+fn add_answered(
     alloc: Global,
+    actor: Actor,
     words: &[&[u8]],
     groups: &[&[&[u8]]],
-) -> Result<Option<Kind>, Memory>
-    ensures { IfOk result (λ kind. kind ≡ spec.answered_of (words_in words.now) (groups_in groups.now)) }
+    entries: &mut Sequence<Entry>,
+) -> Result<bool, Memory>
+    ensures { IfOk result (λ read. (read, entries.new)
+        ≡ spec.added entries.old actor (spec.answered_of (words_in words.now) (groups_in groups.now))) }
 {
     match words {
         [entry, letter, settler, round] => {
             let Some(place) = Place::from_words(entry, letter) else {
-                return Ok(None);
+                return Ok(false);
             };
             let Some(settler) = parse_settler(settler) else {
-                return Ok(None);
+                return Ok(false);
             };
             let Some(round) = parse_round(round) else {
-                return Ok(None);
+                return Ok(false);
             };
             match parse_items(alloc, groups)? {
-                None => Ok(None),
-                Some(items) => Ok(Some(Kind::Answered {
-                    place,
-                    settler,
-                    round,
-                    items,
-                })),
+                None => Ok(false),
+                Some(items) => add_kind(
+                    actor,
+                    Kind::Answered {
+                        place,
+                        settler,
+                        round,
+                        items,
+                    },
+                    entries,
+                ),
             }
         }
-        _ => Ok(None),
+        _ => Ok(false),
     }
 }

@@ -3,138 +3,185 @@ ghost use Rattle.std.specs.Prelude.{◌≡◌, IfOk};
 ghost use Rattle.ov_base.specs.Groups.{groups_in, words_in};
 ghost use Rattle.ov_journal.specs.Read as spec;
 
-use crate::common::{alone, parse_heard, parse_stopped};
+use crate::common::{add_heard, add_kind, add_stopped};
 use crate::list::{parse_items, parse_values};
 use crate::word::{parse_mark, parse_round, parse_seq, parse_session};
-use ov_base::Memory;
-use ov_event::Kind;
+use ov_base::{Memory, Sequence};
+use ov_event::{Entry, Kind};
 use ov_functor::Reply;
-use ov_topology::{Mode, Place, parse_gate, parse_node};
+use ov_topology::{Actor, Mode, Place, parse_gate, parse_node};
 use std::alloc::Global;
 
-/// What a settler did, by the word of its kind.
-pub(crate) fn parse_settler_kind(
+/// Adds what a settler did behind the entries, by the word of its kind; whether it was read. The only error is out of
+/// memory.
+pub(crate) fn add_settler_kind(
     alloc: Global,
+    actor: Actor,
     word: &[u8],
     words: &[&[u8]],
     groups: &[&[&[u8]]],
-) -> Result<Option<Kind>, Memory>
-    ensures { IfOk result (λ kind. kind ≡ spec.settler_kind_of word.now (words_in words.now) (groups_in groups.now)) }
+    entries: &mut Sequence<Entry>,
+) -> Result<bool, Memory>
+    ensures { IfOk result (λ read. (read, entries.new)
+        ≡ spec.added entries.old actor (spec.settler_kind_of word.now (words_in words.now) (groups_in groups.now))) }
 {
     if word == b"heard".as_slice() {
-        parse_heard(alloc, words, groups)
+        add_heard(alloc, actor, words, groups, entries)
     } else if word == b"asked".as_slice() {
-        Ok(alone(groups, parse_asked(words)))
+        match groups {
+            [] => add_asked(actor, words, entries),
+            [_, ..] => Ok(false),
+        }
     } else if word == b"taken".as_slice() {
-        parse_taken(alloc, words, groups)
+        add_taken(alloc, actor, words, groups, entries)
     } else if word == b"settled".as_slice() {
-        parse_settled(alloc, words, groups)
+        add_settled(alloc, actor, words, groups, entries)
     } else if word == b"resulted".as_slice() {
-        Ok(alone(groups, parse_resulted(alloc, words)?))
+        match groups {
+            [] => add_resulted(alloc, actor, words, entries),
+            [_, ..] => Ok(false),
+        }
     } else if word == b"stopped".as_slice() {
-        Ok(alone(groups, parse_stopped(words)))
+        add_stopped(actor, words, groups, entries)
     } else {
-        Ok(None)
+        Ok(false)
     }
 }
 
 #[tactic(auto, unfolding(crate::specs::Read::asked_of))]
-fn parse_asked(words: &[&[u8]]) -> Option<Kind>
-    ensures { result ≡ spec.asked_of (words_in words.now) }
+fn add_asked(actor: Actor, words: &[&[u8]], entries: &mut Sequence<Entry>) -> Result<bool, Memory>
+    ensures { IfOk result (λ read. (read, entries.new)
+        ≡ spec.added entries.old actor (spec.asked_of (words_in words.now))) }
 {
     match words {
         [round, mode, from, below] => {
-            let round = parse_round(round)?;
-            let mode = Mode::parse(mode)?;
-            let from = parse_mark(from)?;
-            let below = parse_mark(below)?;
-            Some(Kind::Asked {
-                round,
-                mode,
-                from,
-                below,
-            })
+            let Some(round) = parse_round(round) else {
+                return Ok(false);
+            };
+            let Some(mode) = Mode::parse(mode) else {
+                return Ok(false);
+            };
+            let Some(from) = parse_mark(from) else {
+                return Ok(false);
+            };
+            let Some(below) = parse_mark(below) else {
+                return Ok(false);
+            };
+            add_kind(
+                actor,
+                Kind::Asked {
+                    round,
+                    mode,
+                    from,
+                    below,
+                },
+                entries,
+            )
         }
-        _ => None,
+        _ => Ok(false),
     }
 }
 
 #[tactic(auto, unfolding(crate::specs::Read::taken_of))]
-fn parse_taken(alloc: Global, words: &[&[u8]], groups: &[&[&[u8]]]) -> Result<Option<Kind>, Memory>
-    ensures { IfOk result (λ kind. kind ≡ spec.taken_of (words_in words.now) (groups_in groups.now)) }
+fn add_taken(
+    alloc: Global,
+    actor: Actor,
+    words: &[&[u8]],
+    groups: &[&[&[u8]]],
+    entries: &mut Sequence<Entry>,
+) -> Result<bool, Memory>
+    ensures { IfOk result (λ read. (read, entries.new)
+        ≡ spec.added entries.old actor (spec.taken_of (words_in words.now) (groups_in groups.now))) }
 {
     match words {
         [entry, letter, round, node] => {
             let Some(place) = Place::from_words(entry, letter) else {
-                return Ok(None);
+                return Ok(false);
             };
             let Some(round) = parse_round(round) else {
-                return Ok(None);
+                return Ok(false);
             };
             let Some((centre, part)) = parse_node(node) else {
-                return Ok(None);
+                return Ok(false);
             };
             match parse_items(alloc, groups)? {
-                None => Ok(None),
-                Some(items) => Ok(Some(Kind::Taken {
-                    place,
-                    round,
-                    centre,
-                    part,
-                    items,
-                })),
+                None => Ok(false),
+                Some(items) => add_kind(
+                    actor,
+                    Kind::Taken {
+                        place,
+                        round,
+                        centre,
+                        part,
+                        items,
+                    },
+                    entries,
+                ),
             }
         }
-        _ => Ok(None),
+        _ => Ok(false),
     }
 }
 
 #[tactic(auto, unfolding(crate::specs::Read::settled_of))]
-fn parse_settled(
+fn add_settled(
     alloc: Global,
+    actor: Actor,
     words: &[&[u8]],
     groups: &[&[&[u8]]],
-) -> Result<Option<Kind>, Memory>
-    ensures { IfOk result (λ kind. kind ≡ spec.settled_of (words_in words.now) (groups_in groups.now)) }
+    entries: &mut Sequence<Entry>,
+) -> Result<bool, Memory>
+    ensures { IfOk result (λ read. (read, entries.new)
+        ≡ spec.added entries.old actor (spec.settled_of (words_in words.now) (groups_in groups.now))) }
 {
     match words {
-        [_, ..] => Ok(None),
+        [_, ..] => Ok(false),
         [] => match parse_values(alloc, groups)? {
-            None => Ok(None),
-            Some(values) => Ok(Some(Kind::Settled { values })),
+            None => Ok(false),
+            Some(values) => add_kind(actor, Kind::Settled { values }, entries),
         },
     }
 }
 
 #[tactic(auto, unfolding(crate::specs::Read::resulted_of))]
-fn parse_resulted(alloc: Global, words: &[&[u8]]) -> Result<Option<Kind>, Memory>
-    ensures { IfOk result (λ kind. kind ≡ spec.resulted_of (words_in words.now)) }
+fn add_resulted(
+    alloc: Global,
+    actor: Actor,
+    words: &[&[u8]],
+    entries: &mut Sequence<Entry>,
+) -> Result<bool, Memory>
+    ensures { IfOk result (λ read. (read, entries.new)
+        ≡ spec.added entries.old actor (spec.resulted_of (words_in words.now))) }
 {
     match words {
         [entry, letter, session, seq, gate, words @ ..] => {
             let Some(place) = Place::from_words(entry, letter) else {
-                return Ok(None);
+                return Ok(false);
             };
             let Some(session) = parse_session(session) else {
-                return Ok(None);
+                return Ok(false);
             };
             let Some(seq) = parse_seq(seq) else {
-                return Ok(None);
+                return Ok(false);
             };
             let Some(gate) = parse_gate(gate) else {
-                return Ok(None);
+                return Ok(false);
             };
             match Reply::from_words(alloc, words)? {
-                None => Ok(None),
-                Some(reply) => Ok(Some(Kind::Resulted {
-                    place,
-                    session,
-                    seq,
-                    gate,
-                    reply,
-                })),
+                None => Ok(false),
+                Some(reply) => add_kind(
+                    actor,
+                    Kind::Resulted {
+                        place,
+                        session,
+                        seq,
+                        gate,
+                        reply,
+                    },
+                    entries,
+                ),
             }
         }
-        _ => Ok(None),
+        _ => Ok(false),
     }
 }

@@ -59,7 +59,7 @@ fn with_first<'a, 'b>(
 ) -> Result<Vec<&'b [&'a [u8]]>, Memory>
     ensures { IfOk result (λ groups. groups_in groups.items ≡ words_in first.now ∷ groups_in others.now) }
 {
-    let mut groups = Vec::new(alloc);
+    let mut groups = Vec::with_capacity(alloc, others.len() + 1)?;
     groups.push(first)?;
     groups.extend_from_slice(others)?;
     Ok(groups)
