@@ -5,8 +5,9 @@ Runs the proved program crates/ov_bench/out/ov_bench (`rt run` in its folder bui
 1,000, 10,000 and 100,000 functors, asks after each insertion for the newest of its key, and at the end for ten windows;
 the versions come in rising, falling and scattered order, on 8 keys, on 1,000 keys, and on as many keys as functors. The
 cost is that of runs which do the work several times over, less that of a run which only makes the keys and versions,
-divided by the times. A unit is the time of one million scattered inserts into a BTreeMap of plain Rust (unit.rs), taken
-in the same run. Ten times the insertions may cost at most 20 times as much, and 100,000 at most half a unit.
+divided by the times; of 15 runs the least counts. A unit is the time of one million scattered inserts into a BTreeMap of
+plain Rust (unit.rs), taken in the same run. Ten times the insertions may cost at most 20 times as much, and 100,000 at
+most half a unit. It takes one to two minutes.
 
 The memory is the peak of 100,000 functors kept by `keep_lists` and by `keep_vector`, each less that of none; the lists
 may take 2.5 times as much as the vector.
@@ -19,7 +20,8 @@ import tempfile
 HERE = os.path.dirname(os.path.abspath(__file__))
 CRATE = os.path.join(os.path.dirname(HERE), "crates", "ov_bench")
 PROGRAM = os.path.join(CRATE, "out", "ov_bench")
-RUNS = 5
+RUNS = 15
+SIZES = ((1_000, 100), (10_000, 20), (100_000, 6))
 MOST_TIMES = 20
 MOST_UNITS = 0.5
 MOST_MEMORY = 2.5
@@ -55,13 +57,24 @@ def unit_cost():
         return least([program])
 
 
+def least_of_all(order, keys):
+    """The least cost of filling each size once. Each run fills all sizes, so that all see the machine as busy."""
+    spent = {size: [] for size, _ in SIZES}
+    for _ in range(RUNS):
+        for size, times in SIZES:
+            words = [PROGRAM, "fill_lists", str(size)]
+            kind = [order, str(keys or size)]
+            spent[size].append((cost(words + [str(times)] + kind), cost(words + ["0"] + kind)))
+    return {
+        size: max(min(full for full, _ in spent[size]) - min(empty for _, empty in spent[size]), 1e-6) / times
+        for size, times in SIZES
+    }
+
+
 def fill(order, keys, unit):
     """Measures the sizes for one order and number of keys; whether one was too dear."""
     slow, before = False, None
-    for size, times in ((1_000, 100), (10_000, 10), (100_000, 3)):
-        words = [PROGRAM, "fill_lists", str(size)]
-        kind = [order, str(keys or size)]
-        spent = max(least(words + [str(times)] + kind) - least(words + ["0"] + kind), 1e-6) / times
+    for size, spent in least_of_all(order, keys).items():
         ratio = spent / before if before else 1
         text = f"{order:9} {keys or 'all':>4} keys {size:6}: {spent:.5f} s, {spent / unit:.3f} units"
         print(text + (f", {ratio:.1f} times the tenth" if before else ""))

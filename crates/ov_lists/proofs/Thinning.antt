@@ -24,6 +24,14 @@ module _ {X : Type 0} where
         | inr left_out ↦ rw left_out (filter_take_more p xs i e (omega (arith, lt)) is)
       ]
 
+  -- one more that passes is one more of those that do
+  pub filter_take_passing : (p : X → Bool) (xs found : List X) (place next : ℕ) (e : X) → next ≡ place + 1 → place < length xs → e ≡ get_or xs place e → p e ≡ true → found ≡ filter p (take place xs)
+      → found ++ e ∷ [] ≡ filter p (take next xs)
+  filter_take_passing p xs found place next e more lt is passes so_far =
+      let same : suc place ≡ next = omega (arith, more) in
+      ap (λ (t : List X). t ++ e ∷ []) so_far ∙ sym (filter_take_more p xs place e lt is ∙ ap (λ b. filter p (take place xs) ++ cond b (e ∷ []) []) passes)
+      ∙ ap (λ n. filter p (take n xs)) same
+
   take_set_more : (xs : List X) (i : ℕ) (e : X) → i < length xs → take (suc i) (set xs i e) ≡ take i xs ++ e ∷ []
   take_set_more [] i e lt = absurd (omega (arith, lt))
   take_set_more (x ∷ xs) zero e lt = refl

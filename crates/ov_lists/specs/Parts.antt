@@ -77,7 +77,19 @@ pub record IsIndex {T : Type 0} (items : List (Entry T)) (parts : List (List ℕ
   pub all : IsPermutation (range_with_len 0 (length items)) (flat parts)
   pub ordered : IsOrdered (listed items parts)
 
--- There is room for so many more items, of which each takes at most one block.
-pub record HasRoom (room len capacity spare : ℕ) : Type 0 where
+-- ---- the keys and versions apart from the items
+
+-- an entry without its item
+abbrev pub head_of : {T : Type 0} → Entry T → Entry (Unit {0})
+head_of e = record { key = e.key; version = e.version; item = tt }
+
+-- the keys and versions of items
+abbrev pub heads_of : {T : Type 0} → List (Entry T) → List (Entry (Unit {0}))
+heads_of items = map head_of items
+
+-- As many keys and versions as items, and room for so many more of both, of which each takes at most one block.
+pub record HasRoom (room len capacity heads_len heads_capacity spare : ℕ) : Type 0 where
   pub items : len + room ≤ capacity
+  pub same : heads_len ≡ len
+  pub heads : heads_len + room ≤ heads_capacity
   pub blocks : room ≤ spare

@@ -1,6 +1,7 @@
 //! One entry of version lists.
 ghost use Rattle.std.specs.Prelude.{◌≡◌};
-ghost use Rattle.ov_lists.specs.Entries.{is_before, is_at, is_below, is_inside, shown};
+ghost use Rattle.ov_lists.specs.Entries.{is_before, is_at, is_below, is_inside};
+ghost use Rattle.ov_lists.specs.Parts.{head_of};
 
 use ov_base::{Key, Version};
 use std::cmp::Ordering;
@@ -8,6 +9,9 @@ use std::marker::Model;
 
 /// The number that is above all versions.
 pub const PAST_ALL: u64 = 1 << 63;
+
+/// A key and a version, without an item.
+pub type Head = Versioned<()>;
 
 /// A key, a version and the item there. Contracts see the bytes of the key and the number of the version.
 #[derive(Drop)]
@@ -59,10 +63,14 @@ impl<T> Versioned<T> {
         from <= number && number < below
     }
 
-    /// Its version, key and item.
-    pub fn parts(&self) -> (Version, Key, &T)
-        ensures { shown result ≡ self.now }
+    /// Its key and version.
+    pub fn head(&self) -> Head
+        ensures { result ≡ head_of self.now }
     {
-        (self.version, self.key, &self.item)
+        Versioned {
+            key: self.key,
+            version: self.version,
+            item: (),
+        }
     }
 }
