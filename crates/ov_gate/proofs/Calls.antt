@@ -8,6 +8,7 @@ use Rattle.std.proofs.lemmas.Grind.{common_steps}
 use Rattle.ov_base.specs.Version.{time_of, gate_of}
 use Rattle.ov_gossip.specs.Marks.{mark_at, greater}
 use Rattle.ov_gossip.specs.declared.marks.Marks.{Marks}
+use Rattle.ov_gossip.proofs.Greater.{greater_swap}
 use Rattle.ov_topology.specs.Shape.{Shape}
 use Rattle.ov_topology.specs.declared.actor.Actor.{Actor}
 use Rattle.ov_topology.specs.declared.actor.Actor.TheVariants.{Gate}
@@ -97,10 +98,6 @@ acked_steps t h actor gate place v c p tracked is running there early own made =
     soon u d q false is_ yet = let before = is.acked_early u d q yet in omega (arith, before)
 
 -- ---- gossip
-
--- the greater of two marks either way round
-pub greater_swap : (a b : Marks) → greater a b ≡ greater b a
-greater_swap a b = let low : max a.low b.low ≡ max b.low a.low = omega arith in let full : max a.full b.full ≡ max b.full a.full = omega arith in let done : max a.done b.done ≡ max b.done a.done = omega arith in rw (low, full, done) refl
 
 -- another gateway is not this one
 pub other_gate : (sender g : ℕ) → sender ≢ g → not (g == sender) ≡ true

@@ -25,7 +25,8 @@ use Rattle.ov_gate.specs.declared.tracked.Mark.TheVariants.{Low, Full, Done}
 use Rattle.ov_gate.proofs.Kept.{lowest_kept}
 use Rattle.ov_gate.proofs.Changes.{by_gate, published_leaves}
 use Rattle.ov_gate.proofs.Stands.{some_steps, none_steps}
-use Rattle.ov_gate.proofs.Calls.{tracked_on, greater_swap}
+use Rattle.ov_gossip.proofs.Greater.{greater_swap}
+use Rattle.ov_gate.proofs.Calls.{tracked_on}
 
 -- ---- the greatest time of a low mark
 

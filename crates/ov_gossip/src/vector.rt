@@ -1,7 +1,7 @@
 //! The marks of all gateways.
-ghost use Rattle.std.specs.Prelude.{◌≡◌, ◌<◌, ◌≤◌, length, replicate};
+ghost use Rattle.std.specs.Prelude.{◌≡◌, ◌<◌, ◌≤◌, ℕ, length, replicate};
 ghost use Rattle.std.specs.Cmp.{partial_equiv_from_equiv};
-ghost use Rattle.ov_gossip.specs.Marks.{no_marks, mark_at, IsVector, Raised, Merged, IsLeast, IsGreatest, least, greatest, low_of, full_of, done_of, mark_of, low_time};
+ghost use Rattle.ov_gossip.specs.Marks.{no_marks, greater, mark_at, IsVector, Raised, Merged, IsLeast, IsGreatest, least, greatest, low_of, full_of, done_of, mark_of, low_time};
 ghost use Rattle.ov_gossip.specs.Lemmas.{vector_eq, vector_eq-equiv, vector_eq-exact};
 
 use crate::marks::Marks;
@@ -104,6 +104,31 @@ impl Vector {
     {
         for gate in 0..other.count() {
             self.raise(gate, other.mark(gate));
+        }
+    }
+
+    /// Hears another vector: takes the greater mark at each place. Where the other has no such place the marks stay.
+    pub fn hear(&mut self, other: &Vector)
+        ensures width { length self.new ≡ length self.old }
+        ensures marks { (k : ℕ) → k < length self.old → mark_at self.new k ≡ greater (mark_at self.old k) (mark_at other.now k) }
+    {
+        for gate in 0..self.count() {
+            self.raise(gate, other.marks_or_none(gate));
+        }
+    }
+
+    /// The marks of a gateway, and no marks where the vector has no such place.
+    fn marks_or_none(&self, gate: u32) -> Marks
+        ensures { result ≡ mark_at self.now gate }
+    {
+        if gate < self.count() {
+            self.mark(gate)
+        } else {
+            Marks {
+                low: 0,
+                full: 0,
+                done: 0,
+            }
         }
     }
 

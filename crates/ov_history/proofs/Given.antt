@@ -337,6 +337,14 @@ takes_may t h actor place kind is =
 pub gate_known : (t : Shape) (g : ℕ) → is_in t (Gate g) ≡ true → g < gates t
 gate_known t g known = grind (arith, common_steps)
 
+-- a settler of the topology is below the number of centres
+pub settler_known : (t : Shape) (s : ℕ) → is_in t (Settler s) ≡ true → s < t.centres
+settler_known t s known = grind (arith, common_steps)
+
+-- a node of the topology has its centre and its partition there
+pub node_known : (t : Shape) (c p : ℕ) → is_in t (Node c p) ≡ true → (c < t.centres) × (p < t.partitions)
+node_known t c p known = (grind (arith, common_steps), grind (arith, common_steps))
+
 -- what an actor does it may do
 acts_may : (t : Setting) (h : History) (actor : Actor) (act : Act) (kind : Kind) → IsShape t.topology → is_in t.topology actor ≡ true → acts t h actor act ≡ Some kind → Guard t h actor kind
 acts_may t h actor (given.Take place) kind shape known is = takes_may t h actor place kind is

@@ -1,5 +1,5 @@
 //! Histories: what an actor is after its own entries, when an entry may follow, when a history is lawful, and what an actor gives for
-//! an act; with the few laws that every running actor and the judge stand on. The other laws are in the crate `ov_laws`.
+//! an act; with the few laws that every running actor stands on. The other laws are in the crate `ov_laws`.
 //!
 //! The promise to the layers above: what an actor gives for an act is exactly what may follow for it (`given_may_follow` and
 //! `may_is_given`), and what may follow still may after entries of other actors (`guard_stays`).

@@ -22,6 +22,7 @@ use Rattle.ov_history.specs.Nodes.{held}
 use Rattle.ov_history.specs.Settlers.{Round, open_round}
 use Rattle.ov_history.specs.May.{Setting, May, MayReply, MayAnswer, Guard, Lawful}
 use Rattle.ov_history.specs.Cores.{IsSound}
+use Rattle.ov_history.proofs.Given.{node_known}
 use Rattle.ov_laws.specs.Harvests.{IsAnswerTo}
 use Rattle.ov_laws.proofs.History.Earlier.{letter_before, letter_lawful}
 use Rattle.ov_laws.proofs.History.Sent.{ack_sent, answer_sent, told_sent}
@@ -68,10 +69,6 @@ sound t h g place (letters.Told session seq sender) lawful there = told_within t
 sound t h g place other lawful there = tt
 
 -- ---- answers
-
--- a node of the topology has its centre and its partition there
-node_known : (t : Shape) (c p : ℕ) → is_in t (Node c p) ≡ true → (c < t.centres) × (p < t.partitions)
-node_known t c p known = (grind (arith, common_steps), grind (arith, common_steps))
 
 -- a settler may rely on every answer to its open round
 pub sound_answer : (t : Setting) (h : History) (s : ℕ) (place : Place) (round : Round) (centre part : ℕ) (items : List Item) → Lawful t h

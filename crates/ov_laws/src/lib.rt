@@ -1,5 +1,5 @@
 //! The laws of lawful histories: which watermarks are final, what a settler gathers, what settled values and replies show, the
-//! order of sessions, how far times go, and what gateways and settlers may rely on in letters. No actor and no judge stands on this
+//! order of sessions, how far times go, and what gateways and settlers may rely on in letters. No actor stands on this
 //! crate, so no edit here has them proved again.
 //!
 //! The promise to the layers above: `right_replies`. In every lawful history each reply shows what executing all begun transactions

@@ -57,7 +57,7 @@ impl NodeCore {
 
     /// Stores the items of a `Write` letter, those that it does not hold yet, and returns its `Stored` entry. None exactly where
     /// no such entry may follow: the node has stopped, or the letter is not a `Write` to it. After None, and on an error, nothing has
-    /// changed. The letter stands at the place in the history.
+    /// changed. The letter stands at the place in the history. Copies the items for the entry; [`NodeCore::store_items`] does not.
     pub fn store(&mut self, place: Place, letter: &Letter) -> Result<Option<Entry>, Memory>
         ensures steps { IfOk result (λ answer. (t : Setting) (h : History) (actor : actors.Actor) → IsNode t h actor self.old → letter_at t.topology h place ≡ Some letter.now → Steps IsNode stores t h actor (Take place) answer self.new) }
         ensures none { IfOk result (λ answer. answer ≡ None → self.new ≡ self.old) }
@@ -71,15 +71,30 @@ impl NodeCore {
         else {
             return Ok(None);
         };
-        if self.stopped || *part != self.part {
+        self.store_items(place, *version, *part, items.copy()?)
+    }
+
+    /// Stores the items of the `Write` letter that stands at the place in the history, as [`NodeCore::store`] does, but the items are
+    /// moved into the entry.
+    pub fn store_items(
+        &mut self,
+        place: Place,
+        version: Version,
+        part: u32,
+        items: Sequence<Item>,
+    ) -> Result<Option<Entry>, Memory>
+        ensures steps { IfOk result (λ answer. (t : Setting) (h : History) (actor : actors.Actor) → IsNode t h actor self.old → letter_at t.topology h place ≡ Some (Write version part items) → Steps IsNode stores t h actor (Take place) answer self.new) }
+        ensures none { IfOk result (λ answer. answer ≡ None → self.new ≡ self.old) }
+        ensures err { OnErr result (self.new ≡ self.old) }
+    {
+        if self.stopped || part != self.part {
             return Ok(None);
         }
-        let stored = items.copy()?;
-        self.hold(items)?;
+        self.hold(&items)?;
         Ok(Some(self.entry(Kind::Stored {
             place,
-            version: *version,
-            items: stored,
+            version,
+            items,
         })))
     }
 

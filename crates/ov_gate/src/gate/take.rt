@@ -5,6 +5,7 @@ ghost use Rattle.ov_topology.specs.declared.actor.Actor as actors;
 ghost use Rattle.ov_session.specs.Events.{Event, Told};
 ghost use Rattle.ov_session.specs.Standing.{StandsFor, IsOpen};
 ghost use Rattle.ov_session.specs.declared.roster.Roster as rosters;
+ghost use Rattle.ov_event.specs.declared.letter.Letter.TheVariants.{Result as Answered};
 ghost use Rattle.ov_history.specs.Past.{History};
 ghost use Rattle.ov_history.specs.Letters.{letter as letter_at};
 ghost use Rattle.ov_history.specs.May.{Setting};
@@ -64,7 +65,7 @@ impl GateCore {
         if self.stopped || *gate == self.gate {
             return None;
         }
-        hear(&mut self.vector, vector);
+        self.vector.hear(vector);
         Some(self.entry(Kind::Heard {
             place,
             vector: *vector,
@@ -73,7 +74,8 @@ impl GateCore {
 
     /// Takes a `Result` letter, with its `Replied` entry. None exactly where no such entry may follow: the gateway has stopped, the
     /// letter is not a `Result` to it, or the command is not one of its sessions that is begun and not replied. After None, and on an
-    /// error, nothing has changed. The letter stands at the place in the history. Takes memory for a copy of the reply.
+    /// error, nothing has changed. The letter stands at the place in the history. Takes memory for a copy of the reply, unlike
+    /// [`GateCore::reply_with`].
     pub fn replied(&mut self, place: Place, letter: &Letter) -> Result<Option<Entry>, Memory>
         ensures steps { IfOk result (λ answer. (t : Setting) (h : History) (actor : actors.Actor) → IsGate t h actor self.old → letter_at t.topology h place ≡ Some letter.now → Steps IsGate is_replied t h actor (Take place) answer self.new) }
         ensures none { IfOk result (λ answer. answer ≡ None → self.new ≡ self.old) }
@@ -88,17 +90,32 @@ impl GateCore {
         else {
             return Ok(None);
         };
-        if self.stopped || *gate != self.gate || !self.sessions.is_open(*session, *seq) {
-            return Ok(None);
+        Ok(self.reply_with(place, *session, *seq, *gate, reply.copy()?))
+    }
+
+    /// Takes the `Result` letter that stands at the place in the history, as [`GateCore::replied`] does, but the reply is moved into the
+    /// entry, so that it takes no memory.
+    pub fn reply_with(
+        &mut self,
+        place: Place,
+        session: u32,
+        seq: u32,
+        gate: u32,
+        reply: Reply,
+    ) -> Option<Entry>
+        ensures steps { (t : Setting) (h : History) (actor : actors.Actor) → IsGate t h actor self.old → letter_at t.topology h place ≡ Some (Answered session seq gate reply) → Steps IsGate is_replied t h actor (Take place) result self.new }
+        ensures none { result ≡ None → self.new ≡ self.old }
+    {
+        if self.stopped || gate != self.gate || !self.sessions.is_open(session, seq) {
+            return None;
         }
-        let copy = reply.copy()?;
-        self.note_reply(*session, *seq, reply);
-        Ok(Some(self.entry(Kind::Replied {
+        self.note_reply(session, seq, &reply);
+        Some(self.entry(Kind::Replied {
             place,
-            session: *session,
-            seq: *seq,
-            reply: copy,
-        })))
+            session,
+            seq,
+            reply,
+        }))
     }
 
     /// Takes a `Told` letter, with its `Told` entry. None exactly where no such entry may follow: the gateway has stopped, or the
@@ -144,31 +161,6 @@ fn latest_of(latest: &[Option<Version>], session: u32) -> Option<Version>
         latest[session]
     } else {
         None
-    }
-}
-
-/// Takes the greater mark at each place of a vector. Where the other has no such place it stays.
-fn hear(vector: &mut Vector, other: &Vector)
-    ensures width { length vector.new ≡ length vector.old }
-    ensures marks { (k : ℕ) → k < length vector.old → mark_at vector.new k ≡ greater (mark_at vector.old k) (mark_at other.now k) }
-{
-    for gate in 0..vector.count() {
-        vector.raise(gate, mark_of(other, gate));
-    }
-}
-
-/// The marks of a gateway in a vector.
-fn mark_of(vector: &Vector, gate: u32) -> Marks
-    ensures { result ≡ mark_at vector.now gate }
-{
-    if gate < vector.count() {
-        vector.mark(gate)
-    } else {
-        Marks {
-            low: 0,
-            full: 0,
-            done: 0,
-        }
     }
 }
 

@@ -21,7 +21,7 @@ use Rattle.ov_history.proofs.Past.{lawful_at, lawful_before}
 use Rattle.ov_laws.proofs.Watermarks.Finals.{visible_final, replicated_final}
 use Rattle.ov_laws.proofs.Times.Begun.{final_begun, final_all_begun}
 use Rattle.ov_laws.proofs.Windows.Rounds.{asked_by}
-use Rattle.ov_history.proofs.Given.{all_below_at}
+use Rattle.ov_history.proofs.Given.{all_below_at, settler_known}
 
 -- ---- sets of centres
 
@@ -75,13 +75,6 @@ meets_one t h k s below round known old final enough = record {
       let all : all_below (λ c. stored c p version (before k h)) t.topology.centres ≡ true = final_all_begun t (before k h) below old final version transaction p begun less inside touched in
       (s, all_below_at (λ c. stored c p version (before k h)) t.topology.centres all s known, enough p inside);
 }
-
--- a settler of the topology is below the number of centres
-settler_known : (t : Shape) (s : ℕ) → is_in t (Settler s) ≡ true → s < t.centres
-settler_known t s known = elim (cases_Bool (nat_lt s t.centres)) [
-  | inl inside ↦ ltb-true s t.centres inside
-  | inr past ↦ let outside : is_in t (Settler s) ≡ false = rw past refl in absurd (cc)
-]
 
 -- answers enough meet what was held
 pub meets : (t : Setting) (h : History) (k s : ℕ) (round : Round) → IsShape t.topology → Lawful t h → at h k ≡ Some (asked_by s round)
