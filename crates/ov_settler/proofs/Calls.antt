@@ -2,6 +2,7 @@
 use Rattle.std.proofs.Common.{◌≡◌, ℕ, ◌<◌, max, true, false, Some, List, length, refl, sym, ◌∙◌, arith}
 use Rattle.ov_gossip.specs.Marks.{mark_at, greater}
 use Rattle.ov_gossip.specs.declared.marks.Marks.{Marks}
+use Rattle.ov_gossip.proofs.Greater.{greater_swap}
 use Rattle.ov_topology.specs.declared.actor.Actor.{Actor}
 use Rattle.ov_topology.specs.declared.place.Place.{Place}
 use Rattle.ov_event.specs.declared.kind.Kind.TheVariants as kinds
@@ -27,10 +28,6 @@ stop_steps t h actor s is running =
     (λ k less. nothing_more (mark_at s.vector k)))
 
 -- ---- gossip
-
--- the greater of two marks either way round
-greater_swap : (a b : Marks) → greater a b ≡ greater b a
-greater_swap a b = let low : max a.low b.low ≡ max b.low a.low = omega arith in let full : max a.full b.full ≡ max b.full a.full = omega arith in let done : max a.done b.done ≡ max b.done a.done = omega arith in rw (low, full, done) refl
 
 pub heard_steps : (t : Setting) (h : History) (actor : Actor) (s : SettlerState) (place : Place) (sender : ℕ) (sent vector : List Marks) → IsSettler t h actor s → s.stopped ≡ false
     → letter t.topology h place ≡ Some (letters.Gossip sender sent) → length vector ≡ length s.vector

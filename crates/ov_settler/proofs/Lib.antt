@@ -6,3 +6,5 @@ pub mod Takes
 pub mod Values
 pub mod Settles
 pub mod Others
+pub mod Replies
+pub mod Admits

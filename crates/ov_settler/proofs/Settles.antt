@@ -27,7 +27,7 @@ use Rattle.ov_history.specs.Settlers.{known_below, open_round, plan_values, took
 use Rattle.ov_history.specs.Gives.{Settle, gives, is_enough, settles}
 use Rattle.ov_history.specs.May.{Setting}
 use Rattle.ov_history.specs.Cores.{kept, Steps}
-use Rattle.ov_history.proofs.Given.{all_below_at, enough_is}
+use Rattle.ov_history.proofs.Given.{all_below_at, enough_is, settler_known}
 use Rattle.ov_history.proofs.Giving.{may_settles}
 use Rattle.ov_window.specs.Evaluation.{only, values_of}
 use Rattle.ov_window.specs.Harvest as harvests
@@ -52,13 +52,6 @@ passing_is f marks (suc n) within same =
     let more : take (suc n) marks ≡ take n marks ++ get_or marks n false ∷ [] = ap (λ k. take k marks) next ∙ take_more marks n false (omega (arith, within)) in
     rw (more, rest, same n (omega arith)) refl
 
--- a settler that is in the topology has a centre there
-settler_known : (t : Shape) (s : ℕ) → is_in t (Settler s) ≡ true → s < t.centres
-settler_known t s known = elim (cases_Bool (nat_lt s t.centres)) [
-  | inl less ↦ ltb-true s t.centres less
-  | inr past ↦ let a = rw past at known in absurd cc
-]
-
 -- ---- the map that is known
 
 value_same : (found : Option (Entry Value)) → item_or Absent found ≡ value_or Absent (option_map valued_of found)
@@ -70,7 +63,7 @@ pub base_is : (t : Setting) (h : History) (actor : Actor) (s : SettlerState) (nu
 base_is t h actor s number is = λ i key. (value_same (latest_of key number s.values) ∙ ap (value_or Absent) (sym (is.values_are key number))) i
 
 module _ (t : Setting) (h : History) (actor : Actor) (s : SettlerState) (one : Gathered) (is : IsSettler t h actor s) (there : s.harvest ≡ Some one) where
-  gathers : Gathers t.topology h s one
+  pub gathers : Gathers t.topology h s one
   gathers = is.gathers one there
 
   votes_are : (p : ℕ) → p < t.topology.partitions → passing (λ c. took s.centre s.rounds c p h) t.topology.centres ≡ marks_of one p
@@ -79,7 +72,7 @@ module _ (t : Setting) (h : History) (actor : Actor) (s : SettlerState) (one : G
       passing_is (λ c. took s.centre s.rounds c p h) (marks_of one p) t.topology.centres (omega (arith, wide)) (λ c less. gathers.answers_are c p less within) ∙ take_all t.topology.centres (marks_of one p) (omega (arith, wide))
 
   -- a partition gave answers enough exactly where the harvest has them
-  enough_where : (p : ℕ) → p < t.topology.partitions → IsComplete one p → settlers.IsEnough t.topology s.centre (round_of s.rounds one) p h one.round.mode
+  pub enough_where : (p : ℕ) → p < t.topology.partitions → IsComplete one p → settlers.IsEnough t.topology s.centre (round_of s.rounds one) p h one.round.mode
   enough_where p within complete = by one.round.mode complete
     where
       by : (mode : Mode) → harvests.IsEnough one.topology one.round.settler (marks_of one p) mode → settlers.IsEnough t.topology s.centre (round_of s.rounds one) p h mode
@@ -88,7 +81,7 @@ module _ (t : Setting) (h : History) (actor : Actor) (s : SettlerState) (one : G
           let here = settler_known t.topology s.centre (subst (λ a. is_in t.topology a ≡ true) is.actor_is is.runs.known) in
           sym (gathers.answers_are s.centre p here within) ∙ subst (λ centre. get_or (marks_of one p) centre false ≡ true) gathers.settler_is complete
 
-  complete_where : (p : ℕ) → p < t.topology.partitions → settlers.IsEnough t.topology s.centre (round_of s.rounds one) p h one.round.mode → IsComplete one p
+  pub complete_where : (p : ℕ) → p < t.topology.partitions → settlers.IsEnough t.topology s.centre (round_of s.rounds one) p h one.round.mode → IsComplete one p
   complete_where p within enough = by one.round.mode enough
     where
       by : (mode : Mode) → settlers.IsEnough t.topology s.centre (round_of s.rounds one) p h mode → harvests.IsEnough one.topology one.round.settler (marks_of one p) mode

@@ -1,16 +1,25 @@
 -- What the calls of a settler core do to its state alone.
-use Rattle.std.specs.Prelude.{◌≡◌, ℕ, ◌<◌, false, Option, Some, None, List, [], ◌∷◌, if◌then◌else◌}
+use Rattle.std.specs.Prelude.{◌≡◌, ℕ, ◌<◌, nat_lt, nat_le, false, Option, Some, None, List, [], ◌∷◌, if◌then◌else◌}
 use Rattle.std.specs.Option.{option_map}
 use Rattle.ov_base.specs.declared.value.Value.{Value}
+use Rattle.ov_functor.specs.Execution.{Map, reply_of}
 use Rattle.ov_functor.specs.declared.item.Item.{Item}
 use Rattle.ov_functor.specs.declared.item.Valued.{Valued}
+use Rattle.ov_functor.specs.declared.reply.Reply.{Reply}
+use Rattle.ov_functor.specs.declared.reply.Reply.TheVariants.{Snap}
 use Rattle.ov_gossip.specs.Marks.{least, low_of, full_of}
 use Rattle.ov_gossip.specs.declared.marks.Marks.{Marks}
 use Rattle.ov_topology.specs.declared.mode.Mode.{Mode}
 use Rattle.ov_topology.specs.declared.mode.Mode.TheVariants.{Quorum, One}
+use Rattle.ov_event.specs.declared.letter.Letter.{Letter}
+use Rattle.ov_event.specs.declared.letter.Letter.TheVariants.{Gossip}
+use Rattle.ov_event.specs.declared.start.Start.{Start}
+use Rattle.ov_event.specs.declared.start.Start.TheVariants.{Draw, Look}
 use Rattle.ov_lists.specs.Entries.{Entry, has_pair, inserted}
 use Rattle.ov_window.specs.Harvest.{Gathered, IsWhole, has_answered, with_answer}
+use Rattle.ov_window.specs.Plan.{map_below}
 use Rattle.ov_window.specs.declared.plan.Task.{Task}
+use Rattle.ov_history.specs.Settlers.{shown}
 use Rattle.ov_settler.specs.Settler.{SettlerState}
 
 -- ---- asking
@@ -76,3 +85,33 @@ with_values (value ∷ values) entries = with_value value (with_values values en
 -- the core after it settled its open round up to a number, with these values
 abbrev pub settled_by : ℕ → List Valued → SettlerState → SettlerState
 settled_by below values s = record s { settled = below; harvest = None; values = with_values values s.values }
+
+-- ---- replies
+
+-- What is settled, by key and then version, and a number.
+pub record Below : Type 0 where
+  pub below : ℕ
+  pub values : List (Entry Value)
+
+-- the map just below the number
+abbrev pub map_of : Below → Map
+map_of b = map_below b.below b.values
+
+-- the reply that a core computes, where what it shows is settled: a transaction's on the values just below its version, and a
+-- snapshot's on those just below the number up to which all is settled
+abbrev pub reply_to : SettlerState → Start → Option Reply
+reply_to s (Draw version transaction) = if nat_lt version s.settled then Some (reply_of (map_below version s.values) version transaction) else None
+reply_to s (Look floor keys) = if nat_le floor s.settled then Some (Snap s.settled (shown (map_below s.settled s.values) keys)) else None
+
+-- ---- what is tested of entries
+
+-- A round of this number is open.
+pub record IsOpen (s : SettlerState) (round : ℕ) : Type 0 where
+  pub harvest : Gathered
+  pub open_is : s.harvest ≡ Some harvest
+  pub current : round ≡ s.rounds
+
+-- a letter tells of these marks
+abbrev pub IsTold : Option Letter → List Marks → Type 0
+IsTold (Some (Gossip gate sent)) vector = sent ≡ vector
+IsTold other vector = ⊥

@@ -121,3 +121,8 @@ is_taken other = false
 abbrev pub is_settled : Kind → Bool
 is_settled (kinds.Settled values) = true
 is_settled other = false
+
+-- whether an entry of this kind is one that `result` makes
+abbrev pub is_resulted : Kind → Bool
+is_resulted (kinds.Resulted place session seq gate reply) = true
+is_resulted other = false

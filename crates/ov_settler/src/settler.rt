@@ -12,13 +12,16 @@ ghost use Rattle.ov_history.specs.Cores.{Steps};
 ghost use Rattle.ov_window.specs.Plan.{map_below, plan_over};
 ghost use Rattle.ov_settler.specs.Settler.{IsSettler};
 
+mod admits;
 mod ask;
 mod hear;
+mod reply;
 mod settle;
 mod take;
 
 use ov_base::{Key, Memory, Value};
 use ov_event::{Entry, Kind};
+use ov_functor::Lookup;
 use ov_gossip::Vector;
 use ov_lists::VersionLists;
 use ov_topology::{Actor, Topology};
@@ -101,10 +104,7 @@ impl SettlerCore {
     pub fn value_at(&self, key: Key, below: u64) -> Value
         ensures { result ≡ map_below below self.now.values key }
     {
-        match self.values.latest(key, below) {
-            Some((_, value)) => *value,
-            None => Value::Absent,
-        }
+        self.values_below(below).value_of(&key)
     }
 
     /// How far it has settled: the number below which all is settled.

@@ -45,7 +45,7 @@ impl SettlerCore {
     }
 
     /// Up to where a round of this mode asks: its visibility watermark, or its replica watermark.
-    fn upper(&self, mode: Mode) -> u64
+    pub(super) fn upper(&self, mode: Mode) -> u64
         ensures { result ≡ upper_of self.now.vector mode }
     {
         match mode {

@@ -53,7 +53,11 @@ impl SettlerCore {
 }
 
 /// The values of tasks, each at the version and key of its task.
-fn valued(alloc: Global, tasks: &[Task], values: &[Value]) -> Result<Sequence<Valued>, Memory>
+pub(super) fn valued(
+    alloc: Global,
+    tasks: &[Task],
+    values: &[Value],
+) -> Result<Sequence<Valued>, Memory>
     ensures { IfOk result (λ all. all ≡ valued_tasks tasks.now values.now) }
 {
     let mut all = Sequence::new(alloc);

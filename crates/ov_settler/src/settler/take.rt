@@ -1,6 +1,7 @@
 //! The answers that a settler takes.
 ghost use Rattle.std.specs.Prelude.{◌≡◌, ◌<◌, ◌↔◌, None, Some, IfOk, IsTrue, OnErr, OnOk};
 ghost use Rattle.ov_topology.specs.declared.actor.Actor as actors;
+ghost use Rattle.ov_event.specs.declared.letter.Letter.TheVariants.{Answer};
 ghost use Rattle.ov_history.specs.Past.{History};
 ghost use Rattle.ov_history.specs.Letters.{letter as letter_at};
 ghost use Rattle.ov_history.specs.May.{Setting};
@@ -20,7 +21,7 @@ impl SettlerCore {
     /// Takes an `Answer` letter, with its `Taken` entry. None exactly where no such entry may follow: the settler has stopped, or the
     /// letter is not an answer to its open round. After None, and on an error, nothing has changed. The letter stands at the place in
     /// the history, and it is sound: an answer to the open round is of a node of the topology, and its items lie in the round's window,
-    /// as in every lawful history (`sound_answers` of `ov_laws`). Takes memory for two copies of the answer.
+    /// as in every lawful history (`sound_answers` of `ov_laws`). Copies the items for the entry; [`SettlerCore::take_items`] does not.
     pub fn take(&mut self, place: Place, letter: &Letter) -> Result<Option<Entry>, Memory>
         ensures steps { IfOk result (λ answer. (t : Setting) (h : History) (actor : actors.Actor) → IsSettler t h actor self.old → letter_at t.topology h place ≡ Some letter.now → IsSound self.old letter.now → Steps IsSettler is_taken t h actor (Take place) answer self.new) }
         ensures none { IfOk result (λ answer. answer ≡ None → self.new ≡ self.old) }
@@ -36,17 +37,34 @@ impl SettlerCore {
         else {
             return Ok(None);
         };
-        if self.stopped || !self.awaits(*settler, *round, *centre, *part) {
+        self.take_items(place, *settler, *round, *centre, *part, items.copy()?)
+    }
+
+    /// Takes the `Answer` letter that stands at the place in the history, as [`SettlerCore::take`] does, but the items are moved into
+    /// the entry. Takes memory for a copy of them, which the harvest keeps.
+    pub fn take_items(
+        &mut self,
+        place: Place,
+        settler: u32,
+        round: u64,
+        centre: u32,
+        part: u32,
+        items: Sequence<Item>,
+    ) -> Result<Option<Entry>, Memory>
+        ensures steps { IfOk result (λ answer. (t : Setting) (h : History) (actor : actors.Actor) → IsSettler t h actor self.old → letter_at t.topology h place ≡ Some (Answer settler round centre part items) → IsSound self.old (Answer settler round centre part items) → Steps IsSettler is_taken t h actor (Take place) answer self.new) }
+        ensures none { IfOk result (λ answer. answer ≡ None → self.new ≡ self.old) }
+        ensures err { OnErr result (self.new ≡ self.old) }
+    {
+        if self.stopped || !self.awaits(settler, round, centre, part) {
             return Ok(None);
         }
-        let taken = items.copy()?;
-        self.gather(*centre, *part, items)?;
+        self.gather(centre, part, &items)?;
         Ok(Some(self.entry(Kind::Taken {
             place,
-            round: *round,
-            centre: *centre,
-            part: *part,
-            items: taken,
+            round,
+            centre,
+            part,
+            items,
         })))
     }
 
