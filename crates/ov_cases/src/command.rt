@@ -1,7 +1,8 @@
 //! Cases of the command: words, the files that they name, and the status and the bytes that come.
+use crate::block::blocks_of;
 use crate::case::Case;
 use crate::fault::CaseFault;
-use crate::line::{Line, bytes_of};
+use crate::line::bytes_of;
 use ov_base::{Sequence, print_number};
 use ov_io::{FileShelf, MemoryShelf, MemorySink, NamedFile, Shelf, ShelfError};
 use ov_top::{Story, stepped_top};
@@ -9,13 +10,6 @@ use std::alloc::{AllocError, Global};
 
 /// How long a file of `data/` may be.
 const LIMIT: u64 = 1 << 23;
-
-/// A file that stands in a case.
-#[derive(Drop)]
-struct Block<'a> {
-    name: &'a str,
-    lines: Vec<Line<'a>>,
-}
 
 /// Runs the words over a shelf and a sink in memory: the line of the status, and what was written.
 pub fn outcome(rt: &HostRuntime, words: &str, case: &Case) -> Result<Vec<u8>, CaseFault> {
@@ -82,35 +76,4 @@ fn push_real(rt: &HostRuntime, name: &str, files: &mut Vec<NamedFile>) -> Result
         Err(ShelfError::Memory) => Err(CaseFault::Memory),
         Err(ShelfError::Failed | ShelfError::TooLong) => Ok(()),
     }
-}
-
-/// The blocks of an input, each behind its line `-- NAME --`.
-fn blocks_of<'a>(alloc: Global, lines: &[Line<'a>]) -> Result<Vec<Block<'a>>, CaseFault> {
-    let mut blocks = Vec::new(alloc);
-    for line in lines {
-        match name_of(line.text) {
-            Some(name) => blocks.push(Block {
-                name,
-                lines: Vec::new(alloc),
-            })?,
-            None => push_line(*line, &mut blocks)?,
-        }
-    }
-    Ok(blocks)
-}
-
-/// Adds a line to the last block.
-fn push_line<'a>(line: Line<'a>, blocks: &mut Vec<Block<'a>>) -> Result<(), CaseFault> {
-    match blocks.last_mut() {
-        None => Err(line.fault("the name of a file is wanted")),
-        Some(block) => {
-            block.lines.push(line)?;
-            Ok(())
-        }
-    }
-}
-
-/// The name in a line `-- NAME --`.
-fn name_of(line: &str) -> Option<&str> {
-    line.strip_prefix("-- ")?.strip_suffix(" --")
 }

@@ -10,11 +10,13 @@
 //! arm of [`outcome_of`] with a module of its own.
 #![tactic(auto)]
 
+mod block;
 mod case;
 mod command;
 mod fault;
 mod line;
 mod text;
+mod world;
 
 use anyhow::{Context, Result};
 use case::{Case, cases_of};
@@ -81,6 +83,9 @@ fn outcome_of(rt: &HostRuntime, case: &Case) -> Result<Vec<u8>, CaseFault> {
     match head.split_once(' ').unwrap_or((head, "")) {
         ("command", words) => command::outcome(rt, words, case),
         ("text", kind) => text::outcome(rt.alloc(), kind, case),
+        ("follow", "") => world::followed(rt.alloc(), case),
+        ("admit", "") => world::admitted(rt.alloc(), case),
+        ("admit", "each") => world::admitted_each(rt.alloc(), case),
         _ => Err(case.head_fault()),
     }
 }

@@ -1,8 +1,0 @@
-use Rattle.std.proofs.Common.{◌≡◌, ℕ}
-use Rattle.ov_gossip.specs.Marks.{low_of}
-use Rattle.ov_history.specs.Counts.{least_of}
-use Rattle.ov_history.specs.Marks.{mark}
-use Rattle.ov_judge.proofs.marks.least_low.Given as goal
-
-abbrev pub invariant-loop-gate : goal.invariant-loop-gate
-invariant-loop-gate l = l.least ≡ least_of (λ (g : ℕ). mark low_of l.actor g l.history) (mark low_of l.actor 0 l.history) l.gate

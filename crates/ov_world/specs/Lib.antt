@@ -1,0 +1,4 @@
+pub mod Acts
+pub mod Actors
+pub mod World
+pub mod Holds

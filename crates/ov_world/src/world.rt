@@ -1,0 +1,158 @@
+//! A world.
+ghost use Rattle.std.specs.Prelude.{◌≡◌, [], reverse, Some, IfOk};
+ghost use Rattle.std.specs.Option.{option_map};
+ghost use Rattle.ov_session.specs.Standing.{IsRoster};
+ghost use Rattle.ov_history.specs.Past.{at};
+ghost use Rattle.ov_history.specs.Letters.{letter as letter_at};
+ghost use Rattle.ov_history.specs.Cores.{letter_for};
+ghost use Rattle.ov_world.specs.Acts.{act_in};
+ghost use Rattle.ov_world.specs.Actors.{AllStand};
+ghost use Rattle.ov_world.specs.Holds.{Holds};
+ghost use Rattle.ov_world.specs.World.{setting_of};
+
+mod admit;
+mod follow;
+
+use crate::act::Act;
+use crate::actor_core::ActorCore;
+use crate::story::Story;
+use ov_base::Memory;
+use ov_event::{Entry, Letter, letter_of};
+use ov_script::Script;
+use ov_session::Roster;
+use ov_topology::{Place, Topology};
+use std::alloc::Global;
+use std::marker::Model;
+
+/// All actors of a topology as they run, what the sessions of a script are to do, and the one history of what the actors did
+/// (docs/STORE.md, Histories). Contracts see the topology, the script and the history, the newest entry first.
+#[derive(Drop)]
+pub struct World {
+    topology: Topology,
+    script: Script,
+    /// The core of each actor, at its number.
+    cores: Vec<ActorCore>,
+    /// What was done, the oldest entry first.
+    entries: Vec<Entry>,
+}
+
+impl Model for World {
+    ghost use Rattle.std.specs.Prelude.{reverse};
+    ghost use Rattle.ov_world.specs.World.{WorldState, IsWorld, setting_by};
+
+    ghost Value = { WorldState };
+
+    ghost view = { λ w. record { topology = w.topology; script = w.script; history = reverse w.entries.items } };
+
+    ghost invariant = { λ w. IsWorld (setting_by w.topology w.script) (reverse w.entries.items) w.cores.items };
+}
+
+impl World {
+    /// The world of a topology and a script in which nothing was done. The only error is out of memory.
+    pub fn start(alloc: Global, topology: Topology, script: Script) -> Result<World, Memory>
+        ensures start { IfOk result (λ world. world ≡ record { topology = topology; script = script; history = [] }) }
+        ensures holds { IfOk result (λ world. Holds (setting_of world) world.history) }
+    {
+        let cores = cores_of(alloc, &topology, script.roster())?;
+        let world = World {
+            topology,
+            script,
+            cores,
+            entries: Vec::new(alloc),
+        };
+        world.assure();
+        Ok(world)
+    }
+
+    /// What was done, the oldest entry first.
+    pub fn entries(&self) -> &[Entry]
+        ensures entries { result.now ≡ reverse self.now.history }
+        ensures holds { Holds (setting_of self.now) self.now.history }
+    {
+        self.entries.as_slice()
+    }
+
+    /// The topology.
+    pub fn topology(&self) -> &Topology
+        ensures { result.now ≡ self.now.topology }
+    {
+        &self.topology
+    }
+
+    /// The script.
+    pub fn script(&self) -> &Script
+        ensures { result.now ≡ self.now.script }
+    {
+        &self.script
+    }
+
+    /// Hands the topology, the script and the entries over to a story, in place of what it had. Does not allocate.
+    pub fn tell(self, story: &mut Story)
+        ensures topology { story.new.topology ≡ Some self.topology }
+        ensures script { story.new.script ≡ Some self.script }
+        ensures entries { story.new.entries.items ≡ reverse self.history }
+        ensures holds { Holds (setting_of self) self.history }
+    {
+        self.assure();
+        story.topology = Some(self.topology);
+        story.script = Some(self.script);
+        story.entries = self.entries;
+    }
+
+    /// Does nothing: where it is called, what is true of every world is known of this one.
+    fn assure(&self)
+        ensures { Holds (setting_of self.now) self.now.history }
+    {
+        let _ = &self.entries;
+    }
+
+    /// The history's letter that an act takes. None where it takes none, or the history has no such letter. The only error is out of
+    /// memory.
+    fn letter_for(&self, act: Act) -> Result<Option<Letter>, Memory>
+        ensures { IfOk result (λ letter. letter ≡ letter_for self.now.topology self.now.history (act_in act)) }
+    {
+        match act {
+            Act::Take { place } => self.letter_at(place),
+            _ => Ok(None),
+        }
+    }
+
+    /// The history's letter at a place. None where it has none. Looks at one entry; the only error is out of memory.
+    fn letter_at(&self, place: Place) -> Result<Option<Letter>, Memory>
+        ensures { IfOk result (λ letter. letter ≡ letter_at self.now.topology self.now.history place) }
+    {
+        match self.entry_at(place.entry) {
+            None => Ok(None),
+            Some(entry) => letter_of(
+                *self.entries.allocator(),
+                &self.topology,
+                entry,
+                place.letter,
+            ),
+        }
+    }
+
+    /// The entry of a number, from 1, the oldest. None exactly where there is none.
+    fn entry_at(&self, number: u64) -> Option<&Entry>
+        ensures { option_map (λ one. one.now) result ≡ at self.now.history number }
+    {
+        if number == 0 {
+            return None;
+        }
+        self.entries.get((number - 1) as usize)
+    }
+}
+
+/// The cores of all actors, which have done nothing. Condition: the roster fits. The only error is out of memory.
+fn cores_of(alloc: Global, topology: &Topology, roster: &Roster) -> Result<Vec<ActorCore>, Memory>
+    requires { IsRoster roster.now }
+    ensures { IfOk result (λ cores. AllStand (record { topology = topology.now; roster = roster.now }) [] cores.items) }
+{
+    let mut cores = Vec::with_capacity(alloc, topology.actors() as usize)?;
+    for number in 0..topology.actors() {
+        if let Some(actor) = topology.actor(number) {
+            cores.push(ActorCore::new(alloc, topology, roster, actor)?)?;
+        }
+    }
+    Ok(cores)
+}
