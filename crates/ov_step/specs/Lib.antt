@@ -1,0 +1,5 @@
+pub mod Added
+pub mod Followed
+pub mod Hearing
+pub mod Reading
+pub mod Seen
