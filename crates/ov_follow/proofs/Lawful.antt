@@ -13,7 +13,7 @@ use Rattle.ov_follow.specs.Lines.{Line, line_of, followed, followed_all, followe
 use Rattle.ov_follow.specs.Calm.{Pass, passed, round_passes, calm_round, all_replied, replies, calm_rounds}
 
 -- after a line
-followed_lawful : (t : Setting) (h : History) (line : Line) → IsShape t.topology → Lawful t h → Lawful t (followed t h line)
+pub followed_lawful : (t : Setting) (h : History) (line : Line) → IsShape t.topology → Lawful t h → Lawful t (followed t h line)
 followed_lawful t h line shape lawful = by (gives t h line.actor line.act) refl
   where
     by : (given : Option Entry) → gives t h line.actor line.act ≡ given → Lawful t (onto given h)
@@ -21,7 +21,7 @@ followed_lawful t h line shape lawful = by (gives t h line.actor line.act) refl
     by (Some e) is = (lawful, (given_follows t h line.actor line.act e shape is).0)
 
 -- after lines
-all_lawful : (t : Setting) (lines : List Line) (h : History) → IsShape t.topology → Lawful t h → Lawful t (followed_all t h lines)
+pub all_lawful : (t : Setting) (lines : List Line) (h : History) → IsShape t.topology → Lawful t h → Lawful t (followed_all t h lines)
 all_lawful t [] h shape lawful = lawful
 all_lawful t (line ∷ lines) h shape lawful = all_lawful t lines (followed t h line) shape (followed_lawful t h line shape lawful)
 
@@ -39,7 +39,7 @@ drive_lawful t [] h shape lawful = lawful
 drive_lawful t (step ∷ schedule) h shape lawful = drive_lawful t schedule (follow t h step) shape (follow_lawful t h step shape lawful)
 
 -- after passes
-passed_lawful : (t : Setting) (passes : List Pass) (h : History) → IsShape t.topology → Lawful t h → Lawful t (passed t h passes)
+pub passed_lawful : (t : Setting) (passes : List Pass) (h : History) → IsShape t.topology → Lawful t h → Lawful t (passed t h passes)
 passed_lawful t [] h shape lawful = lawful
 passed_lawful t (pass ∷ passes) h shape lawful = passed_lawful t passes (followed_all t h (pass t h)) shape (all_lawful t (pass t h) h shape lawful)
 

@@ -23,20 +23,20 @@ onto_grows None h = omega arith
 onto_grows (Some e) h = omega arith
 
 -- after lines
-all_grows : (t : Setting) (lines : List Line) (h : History) → replies h ≤ replies (followed_all t h lines)
+pub all_grows : (t : Setting) (lines : List Line) (h : History) → replies h ≤ replies (followed_all t h lines)
 all_grows t [] h = omega arith
 all_grows t (line ∷ lines) h =
     through (replies h) (replies (followed t h line)) (replies (followed_all t (followed t h line) lines)) (onto_grows (gives t h line.actor line.act) h) (all_grows t lines (followed t h line))
 
 -- after passes
-passed_grows : (t : Setting) (passes : List Pass) (h : History) → replies h ≤ replies (passed t h passes)
+pub passed_grows : (t : Setting) (passes : List Pass) (h : History) → replies h ≤ replies (passed t h passes)
 passed_grows t [] h = omega arith
 passed_grows t (pass ∷ passes) h =
     let after = followed_all t h (pass t h) in
     through (replies h) (replies after) (replies (passed t after passes)) (all_grows t (pass t h) h) (passed_grows t passes after)
 
 -- after a calm round
-round_grows : (t : Setting) (h : History) → replies h ≤ replies (calm_round t h)
+pub round_grows : (t : Setting) (h : History) → replies h ≤ replies (calm_round t h)
 round_grows t h = passed_grows t round_passes h
 
 -- what is enough before a further reply is enough with one round less after it

@@ -74,6 +74,13 @@ impl GateCore {
         })
     }
 
+    /// Whether the gateway has stopped. Does not allocate.
+    pub fn has_stopped(&self) -> bool
+        ensures { result ≡ self.now.stopped }
+    {
+        self.stopped
+    }
+
     /// Stops the gateway. None exactly where it has stopped, and then nothing has changed. Takes no memory.
     pub fn stop(&mut self) -> Option<Entry>
         ensures steps { (t : Setting) (h : History) (actor : actors.Actor) → IsGate t h actor self.old → Steps IsGate stops t h actor Stop result self.new }

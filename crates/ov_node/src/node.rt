@@ -127,6 +127,13 @@ impl NodeCore {
         })))
     }
 
+    /// Whether the node has stopped. Does not allocate.
+    pub fn has_stopped(&self) -> bool
+        ensures { result ≡ self.now.stopped }
+    {
+        self.stopped
+    }
+
     /// Stops the node. None exactly where it has stopped, and then nothing has changed. Does not allocate.
     pub fn stop(&mut self) -> Option<Entry>
         ensures steps { (t : Setting) (h : History) (actor : actors.Actor) → IsNode t h actor self.old → Steps IsNode stops t h actor Stop result self.new }

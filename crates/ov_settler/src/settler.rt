@@ -87,6 +87,13 @@ impl SettlerCore {
         Plan::build(alloc, harvest, &self.values)
     }
 
+    /// Whether the settler has stopped. Does not allocate.
+    pub fn has_stopped(&self) -> bool
+        ensures { result ≡ self.now.stopped }
+    {
+        self.stopped
+    }
+
     /// Stops the settler. None exactly where it has stopped, and then nothing has changed. Does not allocate.
     pub fn stop(&mut self) -> Option<Entry>
         ensures steps { (t : Setting) (h : History) (actor : actors.Actor) → IsSettler t h actor self.old → Steps IsSettler stops t h actor Stop result self.new }

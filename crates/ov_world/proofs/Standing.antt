@@ -1,5 +1,5 @@
 -- The cores of a world, after one more entry.
-use Rattle.std.proofs.Common.{◌≡◌, ◌≢◌, ℕ, zero, suc, ◌+◌, ◌<◌, Bool, true, false, IsTrue, ◌↔◌, ◌==◌, ◌&&◌, Option, Some, None, List, [], ◌∷◌, ◌++◌, length, get_or, refl, sym, ap, subst, ◌∙◌, arith, inl, inr}
+use Rattle.std.proofs.Common.{◌≡◌, ◌≢◌, ℕ, zero, suc, ◌+◌, ◌<◌, Bool, true, false, IsTrue, ◌↔◌, ◌==◌, ◌&&◌, ◌||◌, Option, Some, None, List, [], ◌∷◌, ◌++◌, length, get_or, refl, sym, ap, subst, ◌∙◌, arith, inl, inr}
 use Rattle.std.specs.Prelude.{slice_get, slice_set, is_some, if◌then◌else◌}
 use Rattle.std.proofs.lemmas.Bool.{cases_Bool, eqb-true, false_from_ne_true}
 use Rattle.std.proofs.lemmas.Bool.Decides.{eqb_tells}
@@ -11,7 +11,7 @@ use Rattle.ov_topology.specs.declared.actor.Actor.{Actor}
 use Rattle.ov_topology.specs.declared.actor.Actor.TheVariants as actors
 use Rattle.ov_topology.proofs.Numbers.{number_of_actor}
 use Rattle.ov_event.specs.declared.entry.Entry.{Entry}
-use Rattle.ov_history.specs.Past.{History, same_actor}
+use Rattle.ov_history.specs.Past.{History, same_actor, stopped, stops}
 use Rattle.ov_history.specs.May.{Setting, May, MayBy, Lawful}
 use Rattle.ov_history.specs.Gives.{Act, act_of, gives}
 use Rattle.ov_history.specs.Cores.{onto}
@@ -113,6 +113,20 @@ world_more t h cores number actor act e new is there within does =
 -- an actor that is not in the topology gives nothing
 pub gives_nothing : (t : Setting) (h : History) (actor : Actor) (act : Act) → number_of t.topology actor ≡ None → gives t h actor act ≡ None
 gives_nothing t h actor act none = rw none refl
+
+some_is_not_none : (e : Entry) → Some e ≡ None → ⊥
+some_is_not_none e is = absurd cc
+
+-- an actor that is not in the topology has not stopped
+pub outside_runs : (t : Setting) (h : History) (actor : Actor) → Lawful t h → number_of t.topology actor ≡ None → stopped actor h ≡ false
+outside_runs t [] actor lawful none = refl
+outside_runs t (e ∷ h) actor lawful none = by (same_actor actor e.actor) refl (outside_runs t h actor lawful.0 none)
+  where
+    by : (b : Bool) → same_actor actor e.actor ≡ b → stopped actor h ≡ false → ((if b then stops e.kind else false) || stopped actor h) ≡ false
+    by true same before =
+        let nothing = gives_nothing t h e.actor (act_of e.kind) (rw (same_is actor e.actor same) at none) in
+        absurd (some_is_not_none e (sym (may_given t h e lawful.1) ∙ nothing))
+    by false same before = before
 
 -- the core at an actor's number stands for the history
 pub core_stands : (t : Setting) (h : History) (cores : List ActorCore) (number : ℕ) (actor : Actor) (core : ActorCore) → IsWorld t h cores → actor_at t.topology number ≡ Some actor → number < length cores

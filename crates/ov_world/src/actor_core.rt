@@ -4,7 +4,7 @@ ghost use Rattle.std.specs.Option.{option_map};
 ghost use Rattle.ov_topology.specs.declared.actor.Actor as actors;
 ghost use Rattle.ov_session.specs.Standing.{IsRoster};
 ghost use Rattle.ov_event.specs.Letters.{is_in};
-ghost use Rattle.ov_history.specs.Past.{History};
+ghost use Rattle.ov_history.specs.Past.{History, stopped};
 ghost use Rattle.ov_history.specs.May.{Setting, May, Lawful};
 ghost use Rattle.ov_history.specs.Gives as gives;
 ghost use Rattle.ov_history.specs.Cores.{letter_for};
@@ -77,6 +77,17 @@ impl ActorCore {
             ActorCore::Gate(core) => gate::act(core, roster, act, letter),
             ActorCore::Node(core) => node::act(core, act, letter),
             ActorCore::Settler(core) => settler::act(core, alloc, act, letter),
+        }
+    }
+
+    /// Whether its actor has stopped. Does not allocate.
+    pub(crate) fn has_stopped(&self) -> bool
+        ensures { (t : Setting) (h : History) (actor : actors.Actor) → Stands t h actor self.now → result ≡ stopped actor h }
+    {
+        match self {
+            ActorCore::Gate(core) => core.has_stopped(),
+            ActorCore::Node(core) => core.has_stopped(),
+            ActorCore::Settler(core) => core.has_stopped(),
         }
     }
 

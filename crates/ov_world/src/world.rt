@@ -2,7 +2,7 @@
 ghost use Rattle.std.specs.Prelude.{◌≡◌, [], reverse, Some, IfOk};
 ghost use Rattle.std.specs.Option.{option_map};
 ghost use Rattle.ov_session.specs.Standing.{IsRoster};
-ghost use Rattle.ov_history.specs.Past.{at};
+ghost use Rattle.ov_history.specs.Past.{at, stopped};
 ghost use Rattle.ov_history.specs.Letters.{letter as letter_at};
 ghost use Rattle.ov_history.specs.Cores.{letter_for};
 ghost use Rattle.ov_world.specs.Acts.{act_in};
@@ -20,7 +20,7 @@ use ov_base::Memory;
 use ov_event::{Entry, Letter, letter_of};
 use ov_script::Script;
 use ov_session::Roster;
-use ov_topology::{Place, Topology};
+use ov_topology::{Actor, Place, Topology};
 use std::alloc::Global;
 use std::marker::Model;
 
@@ -84,6 +84,21 @@ impl World {
         ensures { result.now ≡ self.now.script }
     {
         &self.script
+    }
+
+    /// Whether an actor has stopped. One that is not in the topology has not. Does not allocate.
+    pub fn has_stopped(&self, actor: Actor) -> bool
+        ensures { result ≡ stopped actor self.now.history }
+    {
+        match self.topology.number_of(actor) {
+            None => false,
+            Some(number) => self.cores[number as usize].has_stopped(),
+        }
+    }
+
+    /// The allocator of the world's own memory. Does not allocate.
+    pub fn allocator(&self) -> Global {
+        *self.entries.allocator()
     }
 
     /// Hands the topology, the script and the entries over to a story, in place of what it had. Does not allocate.
