@@ -11,6 +11,7 @@
 //! - `keep_lists`, `keep_vector`: SIZE functors kept on 8 keys, for the memory that they take.
 //! - `compare_lists`: SIZE calls on version lists and on plain code, where TIMES says for how many sequences of calls. It
 //!   ends with status 1 at the first difference.
+//! - `calm`, `drive` TOPOLOGY SCRIPT: calm rounds over a script, and the lines that they followed; SIZE says nothing.
 //!
 //! A further word is an arm of [`work`] with a module of its own.
 #![tactic(auto)]
@@ -19,6 +20,7 @@ mod compare;
 mod journal;
 mod keep;
 mod lists;
+mod rounds;
 mod sorted;
 mod sum;
 mod task;
@@ -54,6 +56,8 @@ fn work(rt: &HostRuntime, word: &str, task: &Task) -> Result<usize> {
         "keep_lists" => keep::in_lists(rt, task),
         "keep_vector" => keep::in_vector(rt, task),
         "compare_lists" => compare::lists(rt, task),
+        "calm" => rounds::calmed(rt, task),
+        "drive" => rounds::driven(rt, task),
         _ => bail!("no such word: {word}"),
     }
 }

@@ -1,5 +1,13 @@
-pub mod Added
+pub mod Deeds
 pub mod Followed
-pub mod Hearing
+pub mod Gathered
+pub mod Outstanding
+pub mod Parts
+pub mod Quiet
+pub mod QuietStores
 pub mod Reading
-pub mod Seen
+pub mod Replied
+pub mod Rounds
+pub mod Storing
+pub mod Telling
+pub mod Wants

@@ -10,7 +10,7 @@ use ov_world::{Act, Line, World};
 
 /// Each settler that has not stopped asks for a quorum round where its visibility watermark is above what it has settled
 /// (docs/STORE.md, Calm rounds). On an error, which is always out of memory, some first ones did.
-pub fn ask_all(world: &mut World) -> Result<(), Memory>
+pub(crate) fn ask_all(world: &mut World) -> Result<(), Memory>
     ensures done { OnOk result (Followed (questions (setting_of world.old) world.old.history) world.old world.new) }
     ensures part { OnErr result (FollowedInPart (questions (setting_of world.old) world.old.history) world.old world.new) }
 {

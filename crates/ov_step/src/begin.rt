@@ -13,7 +13,7 @@ use ov_world::{Act, Line, World};
 
 /// Each session whose next command may begin begins it, at clock 0 (docs/STORE.md, Calm rounds). On an error, which is
 /// always out of memory, some first ones did.
-pub fn begin_all(world: &mut World) -> Result<(), Memory>
+pub(crate) fn begin_all(world: &mut World) -> Result<(), Memory>
     ensures done { OnOk result (Followed (begins (setting_of world.old) world.old.history) world.old world.new) }
     ensures part { OnErr result (FollowedInPart (begins (setting_of world.old) world.old.history) world.old world.new) }
 {

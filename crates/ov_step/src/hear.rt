@@ -1,113 +1,95 @@
 //! What gateways published last is heard: the passes 6 and 8 of a calm round.
-ghost use Rattle.std.specs.Prelude.{OnOk, OnErr};
+ghost use Rattle.std.specs.Prelude.{◌≡◌, ◌==◌, ◌||◌, [], ◌++◌, map, if◌then◌else◌, IfOk, OnOk};
 ghost use Rattle.ov_topology.specs.Shape.{gates};
-ghost use Rattle.ov_follow.specs.Passes.{hears, hear_lines, each, running, take};
+ghost use Rattle.ov_topology.specs.declared.actor.Actor.TheVariants.{Gate, Settler};
+ghost use Rattle.ov_history.specs.Past.{stopped};
+ghost use Rattle.ov_follow.specs.Passes.{hears, hear_lines, last_published, each, running, take};
+ghost use Rattle.ov_world.specs.Acts.{line_in};
 ghost use Rattle.ov_world.specs.World.{setting_of};
-ghost use Rattle.ov_step.specs.Added.{Added, AddedInPart};
-ghost use Rattle.ov_step.specs.Followed.{Followed, FollowedInPart};
-ghost use Rattle.ov_step.specs.Hearing.{gate_hears, settler_hears, all_hear};
-ghost use Rattle.ov_step.specs.Seen.{IsSeen};
+ghost use Rattle.ov_step.specs.Rounds.{AreLast};
 
-use crate::seen::Seen;
+use crate::lines::push_take;
+use crate::publications::Publications;
 use ov_base::Memory;
 use ov_topology::{Actor, Place};
-use ov_world::{Act, Line, World};
+use ov_world::{Line, World};
 
-/// What each gateway that has not stopped published last is heard by each other gateway and then by each settler, where it has published
-/// (docs/STORE.md, Calm rounds). Condition: what was seen is of the world's history. On an error, which is always out of memory, some
-/// first ones heard.
-pub fn hear_all(world: &mut World, seen: &Seen) -> Result<(), Memory>
-    requires seen { IsSeen world.old.history (gates world.old.topology) seen.now }
-    ensures done { OnOk result (Followed (hears (setting_of world.old) world.old.history) world.old world.new) }
-    ensures part { OnErr result (FollowedInPart (hears (setting_of world.old) world.old.history) world.old world.new) }
+/// Lists that what each gateway that has not stopped published last is heard by each other gateway and then by each settler, where it
+/// has published (docs/STORE.md, Calm rounds). Condition: these are the publications of the world's history. The only error is out of
+/// memory.
+pub(crate) fn list_hears(world: &World, publications: &Publications) -> Result<Vec<Line>, Memory>
+    requires { AreLast world.now.history (gates world.now.topology) publications.now }
+    ensures { IfOk result (λ lines. map line_in lines.items ≡ hears (setting_of world.now) world.now.history) }
 {
+    let mut lines = Vec::new(world.allocator());
     for gate in 0..world.topology().gateways() {
-        let last = seen.to_hear(gate);
-        match hear_last(world, gate, last) {
-            Ok(()) => {}
-            Err(error) => return Err(error),
-        }
+        let number = publications.last_of(gate);
+        list_last(world, gate, number, &mut lines)?;
     }
-    Ok(())
+    Ok(lines)
 }
 
-/// The entry of this number of a gateway is heard by each other gateway and then by each settler, where there is one.
-fn hear_last(world: &mut World, gate: u32, last: Option<u64>) -> Result<(), Memory>
-    ensures done { OnOk result (Added (all_hear (setting_of world.old) gate last) world.old world.new) }
-    ensures part { OnErr result (AddedInPart (all_hear (setting_of world.old) gate last) world.old world.new) }
+/// Lists that what a gateway published last is heard, where it has published and has not stopped. Condition: this is the number of its
+/// last `Published` entry, 0 where it has none. The only error is out of memory.
+fn list_last(world: &World, gate: u32, number: u64, lines: &mut Vec<Line>) -> Result<(), Memory>
+    requires { number ≡ last_published gate world.now.history }
+    ensures { OnOk result (map line_in lines.new.items ≡ map line_in lines.old.items ++ (if stopped (Gate gate) world.now.history || (last_published gate world.now.history == 0) then [] else hear_lines (setting_of world.now) world.now.history gate (last_published gate world.now.history))) }
 {
-    match last {
-        None => Ok(()),
-        Some(number) => hear_from(world, gate, number),
+    if world.has_stopped(Actor::Gate(gate)) || number == 0 {
+        return Ok(());
     }
+    list_hear(world, gate, number, lines)
 }
 
-/// The entry of this number of a gateway is heard by each other gateway and then by each settler.
-fn hear_from(world: &mut World, gate: u32, number: u64) -> Result<(), Memory>
-    ensures done { OnOk result (Added (λ h. hear_lines (setting_of world.old) h gate number) world.old world.new) }
-    ensures part { OnErr result (AddedInPart (λ h. hear_lines (setting_of world.old) h gate number) world.old world.new) }
+/// Lists that the entry of this number of a gateway is heard by each other gateway and then by each settler. The only error is out of
+/// memory.
+fn list_hear(world: &World, gate: u32, number: u64, lines: &mut Vec<Line>) -> Result<(), Memory>
+    ensures { OnOk result (map line_in lines.new.items ≡ map line_in lines.old.items ++ hear_lines (setting_of world.now) world.now.history gate number) }
 {
-    match hear_by_gates(world, gate, number) {
-        Ok(()) => hear_by_settlers(world, number),
-        Err(error) => Err(error),
-    }
+    list_by_gates(world, gate, number, lines)?;
+    list_by_settlers(world, number, lines)
 }
 
-/// The entry of this number of a gateway is heard by each other gateway.
-fn hear_by_gates(world: &mut World, gate: u32, number: u64) -> Result<(), Memory>
-    ensures done { OnOk result (Added (λ h. each (gate_hears gate number h) (gates world.old.topology)) world.old world.new) }
-    ensures part { OnErr result (AddedInPart (λ h. each (gate_hears gate number h) (gates world.old.topology)) world.old world.new) }
+/// Lists that the entry of this number of a gateway is heard by each other gateway. The only error is out of memory.
+fn list_by_gates(world: &World, gate: u32, number: u64, lines: &mut Vec<Line>) -> Result<(), Memory>
+    ensures { OnOk result (map line_in lines.new.items ≡ map line_in lines.old.items ++ each (λ k. if k == gate then [] else running world.now.history (take (Gate k) number 1)) (gates world.now.topology)) }
 {
     for hearer in 0..world.topology().gateways() {
-        match hear_by_gate(world, hearer, gate, number) {
-            Ok(()) => {}
-            Err(error) => return Err(error),
-        }
+        list_by_gate(world, hearer, gate, number, lines)?;
     }
     Ok(())
 }
 
-/// The entry of this number of a gateway is heard by a gateway, where that is another one.
-fn hear_by_gate(world: &mut World, hearer: u32, gate: u32, number: u64) -> Result<(), Memory>
-    ensures done { OnOk result (Added (λ h. gate_hears gate number h hearer) world.old world.new) }
-    ensures part { OnErr result (AddedInPart (λ h. gate_hears gate number h hearer) world.old world.new) }
+/// Lists that the entry of this number of a gateway is heard by a gateway, where that is another one. The only error is out of memory.
+fn list_by_gate(
+    world: &World,
+    hearer: u32,
+    gate: u32,
+    number: u64,
+    lines: &mut Vec<Line>,
+) -> Result<(), Memory>
+    ensures { OnOk result (map line_in lines.new.items ≡ map line_in lines.old.items ++ (if hearer == gate then [] else running world.now.history (take (Gate hearer) number 1))) }
 {
     if hearer == gate {
         return Ok(());
     }
-    hear(world, Actor::Gate(hearer), number)
+    let place = Place {
+        entry: number,
+        letter: 1,
+    };
+    push_take(world, Actor::Gate(hearer), place, lines)
 }
 
-/// The entry of this number is heard by each settler.
-fn hear_by_settlers(world: &mut World, number: u64) -> Result<(), Memory>
-    ensures done { OnOk result (Added (λ h. each (settler_hears number h) world.old.topology.centres) world.old world.new) }
-    ensures part { OnErr result (AddedInPart (λ h. each (settler_hears number h) world.old.topology.centres) world.old world.new) }
+/// Lists that the entry of this number is heard by each settler. The only error is out of memory.
+fn list_by_settlers(world: &World, number: u64, lines: &mut Vec<Line>) -> Result<(), Memory>
+    ensures { OnOk result (map line_in lines.new.items ≡ map line_in lines.old.items ++ each (λ s. running world.now.history (take (Settler s) number 1)) world.now.topology.centres) }
 {
+    let place = Place {
+        entry: number,
+        letter: 1,
+    };
     for centre in 0..world.topology().centres() {
-        match hear(world, Actor::Settler(centre), number) {
-            Ok(()) => {}
-            Err(error) => return Err(error),
-        }
+        push_take(world, Actor::Settler(centre), place, lines)?;
     }
     Ok(())
-}
-
-/// The actor takes the first letter of the entry of this number.
-fn hear(world: &mut World, actor: Actor, number: u64) -> Result<(), Memory>
-    ensures done { OnOk result (Added (λ h. running h (take actor number 1)) world.old world.new) }
-    ensures part { OnErr result (AddedInPart (λ h. running h (take actor number 1)) world.old world.new) }
-{
-    let line = Line {
-        actor,
-        act: Act::Take {
-            place: Place {
-                entry: number,
-                letter: 1,
-            },
-        },
-    };
-    match world.follow_line(&line) {
-        Ok(_) => Ok(()),
-        Err(error) => Err(error),
-    }
 }

@@ -1,24 +1,36 @@
-//! What a world does: the lines of a schedule, one after another, and what is outstanding.
+//! What a world does: the lines of a schedule, one after another, and what is outstanding, in calm rounds.
 //!
-//! The promise to the layers above: after a call the history of the world is the one that a definition of `ov_follow` gives of the
-//! history before it (`drive`, and for a pass of a calm round the one that its contract names); out of memory, of some first lines.
+//! The promise to the layers above: after `drive` or `calm` the history of the world is the one that the definition of that name in
+//! `ov_follow` gives of the history before it; out of memory, one on the way there.
 //!
-//! Start with `specs/Followed.antt`, then `src/schedule.rt`; for the passes `specs/Seen.antt`, what is read of a history for them, and
-//! `specs/Added.antt`, what the parts of a pass do.
+//! Start with `specs/Followed.antt`, a world after lines, and `src/schedule.rt`. Calm rounds are in `src/calm_rounds.rt`; `src/passes.rt` has
+//! their passes in order, `src/outstanding.rt` what is kept beside the world for them.
 #![tactic(auto)]
 
+mod acknowledge;
+mod answer;
 mod ask;
 mod begin;
+mod calm_rounds;
+mod deeds;
+mod gather;
+mod harvest;
 mod hear;
+mod lines;
+mod outstanding;
+mod passes;
+mod publications;
 mod publish;
+mod replied;
+mod reply;
+mod result;
+mod rounds;
 mod schedule;
-mod seen;
 mod settle;
+mod store;
+mod tell;
+mod wants;
+mod writes;
 
-pub use ask::ask_all;
-pub use begin::begin_all;
-pub use hear::hear_all;
-pub use publish::publish_all;
+pub use calm_rounds::calm;
 pub use schedule::drive;
-pub use seen::Seen;
-pub use settle::settle_all;

@@ -10,7 +10,7 @@ use ov_world::{Act, Line, World};
 
 /// Each gateway that has not stopped publishes, at clock 0 (docs/STORE.md, Calm rounds). On an error, which is always out of memory,
 /// some first ones did.
-pub fn publish_all(world: &mut World) -> Result<(), Memory>
+pub(crate) fn publish_all(world: &mut World) -> Result<(), Memory>
     ensures done { OnOk result (Followed (publishes (setting_of world.old) world.old.history) world.old world.new) }
     ensures part { OnErr result (FollowedInPart (publishes (setting_of world.old) world.old.history) world.old world.new) }
 {

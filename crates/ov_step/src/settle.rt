@@ -10,7 +10,7 @@ use ov_world::{Act, Line, World};
 
 /// Each settler that has not stopped settles its open round where that has answers enough (docs/STORE.md, Calm rounds).
 /// On an error, which is always out of memory, some first ones did.
-pub fn settle_all(world: &mut World) -> Result<(), Memory>
+pub(crate) fn settle_all(world: &mut World) -> Result<(), Memory>
     ensures done { OnOk result (Followed (settlements (setting_of world.old) world.old.history) world.old world.new) }
     ensures part { OnErr result (FollowedInPart (settlements (setting_of world.old) world.old.history) world.old world.new) }
 {
