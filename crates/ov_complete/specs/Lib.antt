@@ -1,0 +1,4 @@
+pub mod Facts
+pub mod Once
+pub mod Order
+pub mod Stable
