@@ -33,9 +33,9 @@ def command(draw, kind):
     if kind == 0:
         return f"do put {one} {draw.randrange(1000)} ; put {two} 7 ; get {three}"
     if kind == 1:
-        return f"do move {one} {two} {draw.randrange(60)} ; get {one} ; add {three} 1"
+        return f"do move {one} {two} {draw.randrange(1, 60)} ; get {one} ; add {three} 1"
     if kind == 2:
-        return f"do add {one} {draw.randrange(100)} ; greatest {two} 50 ; del {three}"
+        return f"do add {one} {draw.randrange(1, 100)} ; greatest {two} 50 ; del {three}"
     if kind == 3:
         return f"do get {one} ; get {two} ; put {three} {draw.randrange(500)}"
     return f"snap {one} {two}"
