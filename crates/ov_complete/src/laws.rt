@@ -1,6 +1,7 @@
 //! What calm rounds make of a whole world, each the contract of a function that does nothing.
 ghost use Rattle.std.specs.Prelude.{◌≡◌, ℕ, ◌+◌, ◌^◌, ◌≤◌, ◌<◌, true, false, Some, List, [], ◌∷◌, ◌++◌, length, slice_get};
 ghost use Rattle.ov_topology.specs.Shape.{IsShape};
+ghost use Rattle.ov_session.specs.Standing.{IsRoster};
 ghost use Rattle.ov_session.specs.declared.plan.SessionPlan.{SessionPlan};
 ghost use Rattle.ov_script.specs.Script.{Content, IsScript};
 ghost use Rattle.ov_script.specs.Sessions.{roster_of, order_of};
@@ -27,9 +28,12 @@ pub fn round_replies()
 
 /// The commands of a script, in the order of its lines, stand in an order in which they can come up for their replies: each behind those
 /// of its session before it, and behind all that it waits for; and every command of its sessions is among them. There are at most 4,000.
+/// Its sessions are a roster, each with a gateway that there is.
 pub fn scripts_in_order()
     ensures order { (script : Content) → IsScript script → IsOrder (roster_of script.lines) (order_of script.lines) }
     ensures commands { (script : Content) (t : Setting) → IsScript script → t.roster ≡ roster_of script.lines → commands t ≤ 4000 }
+    ensures roster { (script : Content) → IsScript script → IsRoster (roster_of script.lines) }
+    ensures own { (script : Content) → IsScript script → (s : ℕ) (plan : SessionPlan) → slice_get (roster_of script.lines).sessions s ≡ Some plan → plan.gate < script.gateways }
 {}
 
 /// After calm rounds each command of each session has begun in exactly one entry, and is replied in exactly one. This holds of every run,

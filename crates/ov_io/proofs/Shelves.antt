@@ -15,6 +15,7 @@ pub record IsRaised (f f' : NamedFile) : Type 0 where
   pub bytes : f'.bytes ≡ f.bytes
   pub later : f.failed ≤ f'.failed
   pub rose : Rose f.failed f'.failed
+  pub once : f'.failed ≤ f.failed + 1
 
 same_name : (q : List ℕ) (f f' : NamedFile) → IsRaised f f' → has_name q f' ≡ has_name q f
 same_name q f f' h = rw h.name refl
@@ -44,6 +45,20 @@ later_set (x ∷ xs) (suc i) d f' q absent lt h =
     elim (cases_Bool (has_name q x)) [
       | inl here ↦ rw here (omega arith)
       | inr past ↦ rw past (later_set xs i d f' q absent (omega arith) h)
+    ]
+
+pub once_set : (fs : List NamedFile) (i : ℕ) (d f' : NamedFile) (q : List ℕ) (absent : ℕ) → i < length fs → IsRaised (get_or fs i d) f'
+    → fault_count (set fs i f') absent q ≤ fault_count fs absent q + 1
+once_set [] i d f' q absent lt h = absurd (omega arith)
+once_set (x ∷ xs) zero d f' q absent lt h =
+    elim (cases_Bool (has_name q x)) [
+      | inl here ↦ rw (here, same_name q x f' h ∙ here) h.once
+      | inr past ↦ rw (past, same_name q x f' h ∙ past) (omega arith)
+    ]
+once_set (x ∷ xs) (suc i) d f' q absent lt h =
+    elim (cases_Bool (has_name q x)) [
+      | inl here ↦ rw here (omega arith)
+      | inr past ↦ rw past (once_set xs i d f' q absent (omega arith) h)
     ]
 
 after : (o : Option ℕ) (i : ℕ) → option_map (λ i. i + 1) o ≡ Some i → (j : ℕ) × (o ≡ Some j) × (i ≡ suc j)
@@ -106,8 +121,10 @@ absent_count (x ∷ xs) q absent e =
 pub absent_rose : (fs : List NamedFile) (q : List ℕ) (absent now : ℕ) → place_from fs q ≡ None → Rose absent now → Rose (fault_count fs absent q) (fault_count fs now q)
 absent_rose fs q absent now e h = rw (absent_count fs q absent e, absent_count fs q now e) h
 
-pub raised_by : (f g : NamedFile) (n : ℕ) → f ≡ g → f.failed ≤ n → Rose f.failed n → IsRaised g (record { name = f.name; bytes = f.bytes; failed = n })
-raised_by f g n same later rose = subst (λ (h : NamedFile). IsRaised h (record { name = f.name; bytes = f.bytes; failed = n })) same (record { name = refl; bytes = refl; later = later; rose = rose })
+-- a file whose count is the next one, which stands still at the end of its type
+pub raised_by : (f g : NamedFile) (n : ℕ) → f ≡ g → f.failed ≤ n → Rose f.failed n → n ≤ f.failed + 1 → IsRaised g (record { name = f.name; bytes = f.bytes; failed = n })
+raised_by f g n same later rose once =
+    subst (λ (h : NamedFile). IsRaised h (record { name = f.name; bytes = f.bytes; failed = n })) same (record { name = refl; bytes = refl; later = later; rose = rose; once = once })
 
 -- a name that has no place has no content
 pub content_none : (fs : List NamedFile) (q : List ℕ) → place_from fs q ≡ None → IsNone (content fs q)

@@ -1,7 +1,7 @@
 //! A shelf and a sink in memory that fail at chosen calls.
-ghost use Rattle.std.specs.Prelude.{◌≡◌, ℕ, List, Option, Some, None, [], ◌<◌, ◌≤◌, length, IfOk, IfSome, IsErrOf, IsNone, OnOk, OnErr, IsTrue, ◌↔◌, ◌⊎◌, vec_len};
+ghost use Rattle.std.specs.Prelude.{◌≡◌, ℕ, List, Option, Some, None, [], ◌<◌, ◌≤◌, ◌+◌, length, IfOk, IfSome, IsErrOf, IsNone, OnOk, OnErr, IsTrue, ◌↔◌, ◌⊎◌, vec_len};
 ghost use Rattle.ov_io.specs.Files.{content, fault_count, place_from};
-ghost use Rattle.ov_io.specs.Causes.{Rose, NoneFell, SameTold, Agrees, LongerThan, Wrote, WroteFront};
+ghost use Rattle.ov_io.specs.Causes.{Rose, NoneFell, SameCounts, NoneRoseTwice, SameTold, Agrees, LongerThan, Wrote, WroteFront};
 ghost use Rattle.ov_io.specs.Memory.{counted, is_to_fail};
 
 use crate::files::NamedFile;
@@ -60,6 +60,8 @@ impl Sink for MemorySink {
         ensures err { OnErr result (WroteFront (Some self.old.written) (Some self.new.written) bytes.now) }
         ensures failed { IsErrOf result SinkError.Failed → Rose self.old.failed self.new.failed }
         ensures later { self.old.failed ≤ self.new.failed }
+        ensures quiet { ¬ IsErrOf result SinkError.Failed → self.new.failed ≡ self.old.failed }
+        ensures once { self.new.failed ≤ self.old.failed + 1 }
         ensures chosen { IsErrOf result SinkError.Failed ↔ IsTrue (is_to_fail self.old.failing self.old.calls) }
         ensures calls { self.new.calls ≡ counted self.old.calls }
         ensures failing { self.new.failing ≡ self.old.failing }
@@ -118,6 +120,9 @@ impl Shelf for MemoryShelf {
         ensures failed { IsErrOf result ShelfError.Failed
             → Rose (fault_count self.old.files self.old.absent name.now) (fault_count self.new.files self.new.absent name.now) }
         ensures later { NoneFell (fault_count self.old.files self.old.absent) (fault_count self.new.files self.new.absent) }
+        ensures quiet { ¬ IsErrOf result ShelfError.Failed
+            → SameCounts (fault_count self.old.files self.old.absent) (fault_count self.new.files self.new.absent) }
+        ensures once { NoneRoseTwice (fault_count self.old.files self.old.absent) (fault_count self.new.files self.new.absent) }
         ensures same { SameTold (content self.old.files) (content self.new.files) }
         ensures chosen { IsErrOf result ShelfError.Failed
             ↔ (IsTrue (is_to_fail self.old.failing self.old.calls) ⊎ IsNone (content self.old.files name.now)) }
@@ -160,6 +165,7 @@ fn raise(files: &mut Vec<NamedFile>, place: usize)
     requires within { place < length files.old.items }
     ensures told { (name : List ℕ) → content files.new.items name ≡ content files.old.items name }
     ensures later { (name : List ℕ) (absent : ℕ) → fault_count files.old.items absent name ≤ fault_count files.new.items absent name }
+    ensures once { (name : List ℕ) (absent : ℕ) → fault_count files.new.items absent name ≤ fault_count files.old.items absent name + 1 }
     ensures rose { (name : List ℕ) (absent : ℕ) → place_from files.old.items name ≡ Some place
         → Rose (fault_count files.old.items absent name) (fault_count files.new.items absent name) }
 {

@@ -1,6 +1,6 @@
 //! The trusted edge: the files of the system and its standard output. Nothing is told of the content of files, and
 //! of the output what its writer tells.
-ghost use Rattle.std.specs.Prelude.{◌≡◌, None, length, ◌<◌, ◌≤◌, IfOk, OnOk, IsErrOf};
+ghost use Rattle.std.specs.Prelude.{◌≡◌, ℕ, List, None, length, ◌<◌, ◌≤◌, ◌+◌, IfOk, OnOk, IsErrOf};
 ghost use Rattle.std.specs.Io.KnownBytes.{Appends, Consumes, IsAtEnd};
 ghost use Rattle.ov_io.specs.Causes.{Rose, LongerThan};
 
@@ -68,6 +68,7 @@ fn read_file<R: Files>(rt: &R, alloc: Global, name: &str, limit: u64) -> Result<
 fn read_all<F: Read>(file: &mut F, alloc: Global, limit: u64) -> Result<Vec<u8>, ShelfError>
     ensures bytes { IfOk result (λ v. Consumes (F.remaining file.old) (F.remaining file.new) v.items) }
     ensures end { OnOk result (IsAtEnd (F.remaining file.new)) }
+    ensures asked { (taken : List ℕ) × Consumes (F.remaining file.old) (F.remaining file.new) taken × (length taken ≤ limit + 1) }
     ensures short { IfOk result (λ v. length v.items ≤ limit) }
     ensures long { IsErrOf result ShelfError.TooLong → LongerThan limit None }
 {
@@ -94,8 +95,10 @@ fn read_all<F: Read>(file: &mut F, alloc: Global, limit: u64) -> Result<Vec<u8>,
 
 /// How many bytes may still be asked for: up to one past the limit, and no more than a chunk.
 fn room_within(limit: u64, held: u64) -> usize
+    requires { held ≤ limit }
     ensures some { 0 < result }
     ensures within { result ≤ CHUNK }
+    ensures limit { held + result ≤ limit + 1 }
 {
     limit
         .saturating_sub(held)
@@ -139,8 +142,9 @@ impl<W: Write + Drop> Sink for StdoutSink<W> {
     fn put(&mut self, _alloc: Global, bytes: &[u8]) -> Result<(), SinkError>
         ensures failed { IsErrOf result SinkError.Failed → Rose self.old.1 self.new.1 }
         ensures later { self.old.1 ≤ self.new.1 }
+        ensures quiet { ¬ IsErrOf result SinkError.Failed → self.new.1 ≡ self.old.1 }
+        ensures once { self.new.1 ≤ self.old.1 + 1 }
         ensures whole { OnOk result (Appends (W.contents self.old.0) (W.contents self.new.0) bytes.now) }
-        ensures sure { OnOk result (self.new.1 ≡ self.old.1) }
     {
         match self.out.write_all(bytes) {
             Ok(()) => Ok(()),

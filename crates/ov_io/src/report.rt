@@ -21,6 +21,7 @@ pub fn put_text<K: Sink>(alloc: Global, bytes: &[u8], out: &mut K) -> Result<(),
     ensures err { OnErr result (WroteFront (K.written out.old) (K.written out.new) bytes.now) }
     ensures failed { IsErrOf result ReportError.WriteFault → Rose (K.faults out.old) (K.faults out.new) }
     ensures later { K.faults out.old ≤ K.faults out.new }
+    ensures quiet { ¬ IsErrOf result ReportError.WriteFault → K.faults out.new ≡ K.faults out.old }
 {
     match out.put(alloc, bytes) {
         Ok(()) => Ok(()),

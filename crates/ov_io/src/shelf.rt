@@ -1,6 +1,6 @@
 //! Files that are read.
 ghost use Rattle.std.specs.Prelude.{◌≡◌, ℕ, List, Option, ◌≤◌, length, IfOk, IsErrOf};
-ghost use Rattle.ov_io.specs.Causes.{Rose, NoneFell, SameTold, Agrees, LongerThan};
+ghost use Rattle.ov_io.specs.Causes.{Rose, NoneFell, SameCounts, NoneRoseTwice, SameTold, Agrees, LongerThan};
 
 use std::alloc::Global;
 
@@ -25,12 +25,16 @@ pub trait Shelf {
 
     /// The bytes of a file, which are no more than the limit. `Failed` comes only where the count of that
     /// name rose in this call, `TooLong` exactly where the content is longer than the limit; out of memory
-    /// is free. No read changes what is told.
+    /// is free. No count rises in a call that returns anything else than `Failed`, and none by more than one
+    /// in one that does, where the counts of other names may rise with the name's. No read changes what is
+    /// told.
     fn read(&mut self, alloc: Global, name: &str, limit: u64) -> Result<Vec<u8>, ShelfError>
         ensures bytes { IfOk result (λ v. Agrees (told self.old name.now) v.items) }
         ensures short { IfOk result (λ v. length v.items ≤ limit) }
         ensures long { IsErrOf result ShelfError.TooLong → LongerThan limit (told self.old name.now) }
         ensures failed { IsErrOf result ShelfError.Failed → Rose (faults self.old name.now) (faults self.new name.now) }
         ensures later { NoneFell (faults self.old) (faults self.new) }
+        ensures quiet { ¬ IsErrOf result ShelfError.Failed → SameCounts (faults self.old) (faults self.new) }
+        ensures once { NoneRoseTwice (faults self.old) (faults self.new) }
         ensures same { SameTold (told self.old) (told self.new) };
 }

@@ -1,5 +1,5 @@
 //! A place that texts are written to.
-ghost use Rattle.std.specs.Prelude.{◌≡◌, ℕ, List, Option, ◌≤◌, ◌++◌, OnOk, OnErr, IfErr, IsErrOf};
+ghost use Rattle.std.specs.Prelude.{◌≡◌, ℕ, List, Option, ◌≤◌, ◌+◌, ◌++◌, OnOk, OnErr, IfErr, IsErrOf};
 ghost use Rattle.ov_io.specs.Causes.{Rose, Wrote, WroteFront};
 
 use std::alloc::Global;
@@ -22,12 +22,15 @@ pub trait Sink {
     ghost faults: { Self → ℕ };
 
     /// Writes the bytes. After an error a prefix of them was written. `Failed` comes only where the count
-    /// rose in this call; out of memory may always come.
+    /// rose in this call, by one; it rises in no call that returns anything else. Out of memory may always
+    /// come.
     fn put(&mut self, alloc: Global, bytes: &[u8]) -> Result<(), SinkError>
         ensures ok { OnOk result (Wrote (written self.old) (written self.new) bytes.now) }
         ensures err { OnErr result (WroteFront (written self.old) (written self.new) bytes.now) }
         ensures failed { IsErrOf result SinkError.Failed → Rose (faults self.old) (faults self.new) }
-        ensures later { faults self.old ≤ faults self.new };
+        ensures later { faults self.old ≤ faults self.new }
+        ensures quiet { ¬ IsErrOf result SinkError.Failed → faults self.new ≡ faults self.old }
+        ensures once { faults self.new ≤ faults self.old + 1 };
 }
 
 /// Appends the bytes to what was written in memory. On an error nothing is appended.

@@ -9,7 +9,7 @@ ghost use Rattle.ov_world.specs.Acts.{line_in};
 ghost use Rattle.ov_world.specs.World.{setting_of};
 ghost use Rattle.ov_step.specs.Rounds.{AreRounds, kept_round};
 
-use crate::lines::push_take;
+use crate::lines::{allocator_of, push_take};
 use crate::rounds::{Rounds, SettlerRounds};
 use ov_base::Memory;
 use ov_topology::{Actor, Mode, Place};
@@ -21,7 +21,7 @@ pub(crate) fn list_answers(world: &World, rounds: &Rounds) -> Result<Vec<Line>, 
     requires { AreRounds world.now.history world.now.topology.centres rounds.now }
     ensures { IfOk result (λ lines. map line_in lines.items ≡ answers (setting_of world.now) world.now.history) }
 {
-    let mut lines = Vec::new(world.allocator());
+    let mut lines = Vec::new(allocator_of(world));
     for settler in 0..world.topology().centres() {
         let of = rounds.of(settler);
         list_by_asked(world, settler, of, &mut lines)?;

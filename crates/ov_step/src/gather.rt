@@ -7,6 +7,7 @@ ghost use Rattle.ov_step.specs.Deeds.{AllDone};
 ghost use Rattle.ov_step.specs.Gathered.{Lister, IsClear, Stays};
 
 use crate::deeds::Deeds;
+use crate::lines::allocator_of;
 use ov_base::Memory;
 use ov_event::Entry;
 use ov_world::{Line, World};
@@ -45,7 +46,7 @@ pub(crate) fn gather_lines<P: EntryPass>(
     ensures clear { OnOk result (IsClear P.lister (setting_of world.now) world.now.history clear.new) }
 {
     let entries = world.entries();
-    let mut lines = Vec::new(world.allocator());
+    let mut lines = Vec::new(allocator_of(world));
     for place in *clear as usize..entries.len() {
         let number = place as u64 + 1;
         P::list(world, deeds, number, &entries[place], &mut lines)?;

@@ -8,6 +8,7 @@ ghost use Rattle.ov_world.specs.Acts.{line_in};
 ghost use Rattle.ov_world.specs.World.{setting_of};
 ghost use Rattle.ov_step.specs.Rounds.{AreRounds, kept_round};
 
+use crate::lines::allocator_of;
 use crate::rounds::{OpenRound, Rounds, SettlerRounds};
 use ov_base::Memory;
 use ov_event::{Entry, Kind};
@@ -21,7 +22,7 @@ pub(crate) fn list_takes(world: &World, rounds: &Rounds) -> Result<Vec<Line>, Me
     requires { AreRounds world.now.history world.now.topology.centres rounds.now }
     ensures { IfOk result (λ lines. map line_in lines.items ≡ takes (setting_of world.now) world.now.history) }
 {
-    let mut lines = Vec::new(world.allocator());
+    let mut lines = Vec::new(allocator_of(world));
     for settler in 0..world.topology().centres() {
         let of = rounds.of(settler);
         list_by_settler(world, settler, of, &mut lines)?;

@@ -8,7 +8,7 @@ ghost use Rattle.ov_world.specs.Acts.{line_in};
 ghost use Rattle.ov_world.specs.World.{setting_of};
 ghost use Rattle.ov_step.specs.Rounds.{AreLast};
 
-use crate::lines::push_take;
+use crate::lines::{allocator_of, push_take};
 use crate::publications::Publications;
 use ov_base::Memory;
 use ov_topology::{Actor, Place};
@@ -21,7 +21,7 @@ pub(crate) fn list_hears(world: &World, publications: &Publications) -> Result<V
     requires { AreLast world.now.history (gates world.now.topology) publications.now }
     ensures { IfOk result (λ lines. map line_in lines.items ≡ hears (setting_of world.now) world.now.history) }
 {
-    let mut lines = Vec::new(world.allocator());
+    let mut lines = Vec::new(allocator_of(world));
     for gate in 0..world.topology().gateways() {
         let number = publications.last_of(gate);
         list_last(world, gate, number, &mut lines)?;

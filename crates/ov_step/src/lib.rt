@@ -30,7 +30,6 @@ mod settle;
 mod store;
 mod tell;
 mod wants;
-mod writes;
 
 pub use calm_rounds::calm;
 pub use schedule::drive;

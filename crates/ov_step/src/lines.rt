@@ -7,6 +7,13 @@ ghost use Rattle.ov_step.specs.Followed.{Followed, FollowedInPart};
 use ov_base::Memory;
 use ov_topology::{Actor, Place};
 use ov_world::{Act, Line, World};
+use std::alloc::Global;
+
+/// The allocator of a world's own memory.
+pub(crate) fn allocator_of(world: &World) -> Global {
+    let lines = world.script().roster().sessions.empty::<Line>();
+    *lines.into_vec().allocator()
+}
 
 /// Follows the lines in order. On an error, which is always out of memory, some first ones were followed.
 pub(crate) fn follow_all(world: &mut World, lines: &[Line]) -> Result<(), Memory>

@@ -9,6 +9,7 @@ ghost use Rattle.ov_world.specs.World.{setting_of};
 ghost use Rattle.ov_step.specs.Outstanding.{IsOutstanding};
 
 use crate::deeds::Deeds;
+use crate::lines::allocator_of;
 use crate::publications::Publications;
 use crate::replied::Replied;
 use crate::rounds::Rounds;
@@ -55,7 +56,7 @@ impl Outstanding {
     fn new(world: &World) -> Result<Outstanding, Memory>
         ensures { IfOk result (λ kept. IsOutstanding (setting_of world.now) [] kept) }
     {
-        let alloc = world.allocator();
+        let alloc = allocator_of(world);
         let topology = world.topology();
         Ok(Outstanding {
             read: 0,

@@ -7,9 +7,8 @@ ghost use Rattle.ov_step.specs.Deeds.{AllDone};
 ghost use Rattle.ov_step.specs.Wants.{AreWants, is_wanting, wants_over};
 
 use crate::deeds::{Deed, Deeds};
-use crate::writes::write_count;
 use ov_base::Memory;
-use ov_event::{Entry, Kind};
+use ov_event::{Entry, Kind, write_count};
 use ov_topology::{Actor, Topology};
 use std::alloc::Global;
 use std::marker::Model;

@@ -128,6 +128,6 @@ Gives view (Err e) read = Fails e read
 
 -- what a refusal of `toml` is reported as
 abbrev pub IsCause : Error → TopologyError → Type 0
-IsCause e fault.Memory = Unit {0}
+IsCause e fault.Memory = IsMemory e
 IsCause e fault.NotToml = ¬ IsMemory e
 IsCause e _ = ⊥

@@ -1,6 +1,7 @@
 //! What a command read, made and did.
 ghost use Rattle.std.specs.Prelude.{◌≡◌, [], None};
 
+use ov_base::Sequence;
 use ov_event::Entry;
 use ov_script::Script;
 use ov_topology::Topology;
@@ -11,20 +12,18 @@ use std::alloc::Global;
 pub struct Story {
     pub topology: Option<Topology>,
     pub script: Option<Script>,
-    pub entries: Vec<Entry>,
+    pub entries: Sequence<Entry>,
 }
 
 impl Story {
     /// Nothing read, made or done. Does not allocate.
     pub fn empty(alloc: Global) -> Story
-        ensures topology { result.topology ≡ None }
-        ensures script { result.script ≡ None }
-        ensures entries { result.entries.items ≡ [] }
+        ensures { result ≡ record { topology = None; script = None; entries = [] } }
     {
         Story {
             topology: None,
             script: None,
-            entries: Vec::new(alloc),
+            entries: Sequence::new(alloc),
         }
     }
 }

@@ -16,7 +16,7 @@ mod follow;
 use crate::act::Act;
 use crate::actor_core::ActorCore;
 use crate::story::Story;
-use ov_base::Memory;
+use ov_base::{Memory, Sequence};
 use ov_event::{Entry, Letter, letter_of};
 use ov_script::Script;
 use ov_session::Roster;
@@ -96,22 +96,17 @@ impl World {
         }
     }
 
-    /// The allocator of the world's own memory. Does not allocate.
-    pub fn allocator(&self) -> Global {
-        *self.entries.allocator()
-    }
-
     /// Hands the topology, the script and the entries over to a story, in place of what it had. Does not allocate.
     pub fn tell(self, story: &mut Story)
         ensures topology { story.new.topology ≡ Some self.topology }
         ensures script { story.new.script ≡ Some self.script }
-        ensures entries { story.new.entries.items ≡ reverse self.history }
+        ensures entries { story.new.entries ≡ reverse self.history }
         ensures holds { Holds (setting_of self) self.history }
     {
         self.assure();
         story.topology = Some(self.topology);
         story.script = Some(self.script);
-        story.entries = self.entries;
+        story.entries = Sequence::from_vec(self.entries);
     }
 
     /// Does nothing: where it is called, what is true of every world is known of this one.
