@@ -4,7 +4,7 @@ ghost use Rattle.ov_base.specs.Lemmas.{exact_tests};
 use ov_base::{Memory, Plain};
 
 /// A command: its session, from 0, and its number in that session, from 1.
-#[derive(Clone, Copy, Debug, PartialEq, Eq)]
+#[derive(Clone, Copy, Debug, PartialEq, Eq, Hash)]
 pub struct CommandAt {
     pub session: u32,
     pub seq: u32,
