@@ -2,8 +2,8 @@
 use crate::block::blocks_of;
 use crate::case::Case;
 use crate::fault::CaseFault;
-use crate::line::bytes_of;
-use ov_base::{Sequence, print_number};
+use crate::line::{bytes_of, print_count};
+use ov_base::Sequence;
 use ov_io::{FileShelf, MemoryShelf, MemorySink, NamedFile, Shelf, ShelfError};
 use ov_top::{Story, stepped_top};
 use std::alloc::{AllocError, Global};
@@ -11,8 +11,25 @@ use std::alloc::{AllocError, Global};
 /// How long a file of `data/` may be.
 const LIMIT: u64 = 1 << 23;
 
-/// Runs the words over a shelf and a sink in memory: the line of the status, and what was written.
+/// How a call of the command ended, what it wrote, and what it read and did.
+#[derive(Drop)]
+pub struct Called {
+    pub status: u8,
+    pub sink: MemorySink,
+    pub story: Story,
+}
+
+/// The line of the status, and what was written.
 pub fn outcome(rt: &HostRuntime, words: &str, case: &Case) -> Result<Vec<u8>, CaseFault> {
+    let called = call(rt, words, case)?;
+    let mut outcome = Vec::new(rt.alloc());
+    print_count("status", u64::from(called.status), &mut outcome)?;
+    outcome.extend_from_slice(called.sink.written())?;
+    Ok(outcome)
+}
+
+/// Calls the command with these words, over a shelf of the files of the case and a sink in memory.
+pub fn call(rt: &HostRuntime, words: &str, case: &Case) -> Result<Called, CaseFault> {
     let alloc = rt.alloc();
     let words = words_of(alloc, words)?;
     let files = files_of(rt, words.as_slice(), case)?;
@@ -20,11 +37,11 @@ pub fn outcome(rt: &HostRuntime, words: &str, case: &Case) -> Result<Vec<u8>, Ca
     let mut sink = MemorySink::of(alloc, Vec::new(alloc));
     let mut story = Story::empty(alloc);
     let status = stepped_top(alloc, words.as_slice(), &mut shelf, &mut sink, &mut story);
-    let mut outcome = Vec::from_slice(alloc, b"status ")?;
-    print_number(u64::from(status), &mut outcome)?;
-    outcome.push(b'\n')?;
-    outcome.extend_from_slice(sink.written())?;
-    Ok(outcome)
+    Ok(Called {
+        status,
+        sink,
+        story,
+    })
 }
 
 /// The words of the command line, of which `""` is the empty one.

@@ -2,6 +2,7 @@
 ghost use Rattle.std.specs.Prelude.{◌<◌, IfSome};
 
 use crate::fault::CaseFault;
+use ov_base::{Memory, print_number};
 use std::alloc::Global;
 
 /// A line of a file, with its number, from 1.
@@ -97,4 +98,12 @@ fn hex_digit(digit: u8) -> Option<u8>
         b'a'..=b'f' => Some(digit - b'a' + 10),
         _ => None,
     }
+}
+
+/// Prints a line of a word and a number.
+pub fn print_count(word: &str, number: u64, printed: &mut Vec<u8>) -> Result<(), Memory> {
+    printed.extend_from_slice(word.as_bytes())?;
+    printed.push(b' ')?;
+    print_number(number, printed)?;
+    Ok(printed.push(b'\n')?)
 }

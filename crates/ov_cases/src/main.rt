@@ -15,6 +15,7 @@ mod case;
 mod command;
 mod fault;
 mod line;
+mod story;
 mod text;
 mod world;
 
@@ -84,9 +85,9 @@ fn outcome_of(rt: &HostRuntime, case: &Case) -> Result<Vec<u8>, CaseFault> {
         ("command", words) => command::outcome(rt, words, case),
         ("text", kind) => text::outcome(rt.alloc(), kind, case),
         ("follow", "") => world::followed(rt.alloc(), case),
-        ("calm", "") => world::calmed(rt.alloc(), case),
-        ("calm", "briefly") => world::calmed_briefly(rt.alloc(), case),
-        ("calm", "replies") => world::calmed_replies(rt.alloc(), case),
+        ("calm", "") => story::entries(rt, case),
+        ("calm", "briefly") => story::briefly(rt, case),
+        ("calm", "replies") => story::replies(rt, case),
         ("admit", "") => world::admitted(rt.alloc(), case),
         ("admit", "each") => world::admitted_each(rt.alloc(), case),
         _ => Err(case.head_fault()),

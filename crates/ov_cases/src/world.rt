@@ -2,13 +2,11 @@
 use crate::block::{Block, blocks_of};
 use crate::case::Case;
 use crate::fault::CaseFault;
-use crate::line::bytes_of;
-use ov_base::{Memory, print_number};
-use ov_event::{Entry, Kind};
-use ov_functor::Reply;
+use crate::line::{bytes_of, print_count};
+use ov_base::Memory;
+use ov_event::Entry;
 use ov_journal::{JournalError, has_line, print_entry, read_journal};
 use ov_script::{Schedule, ScheduleError, Script, ScriptError, Step};
-use ov_step::{calm, drive};
 use ov_topology::{Topology, TopologyError};
 use ov_world::World;
 use std::alloc::Global;
@@ -23,79 +21,6 @@ pub fn followed(alloc: Global, case: &Case) -> Result<Vec<u8>, CaseFault> {
         print_step(alloc, &mut world, step, &mut printed)?;
     }
     Ok(printed)
-}
-
-/// The entries of the history after the schedule and calm rounds, in their order.
-pub fn calmed(alloc: Global, case: &Case) -> Result<Vec<u8>, CaseFault> {
-    let world = calm_world(alloc, case)?;
-    let mut printed = Vec::new(alloc);
-    for entry in world.entries() {
-        if has_line(entry) {
-            print_entry(alloc, entry, &mut printed)?;
-            printed.extend_from_slice(b"\n")?;
-        }
-    }
-    Ok(printed)
-}
-
-/// How many entries the history has after the schedule and calm rounds, and its replies in their order.
-pub fn calmed_briefly(alloc: Global, case: &Case) -> Result<Vec<u8>, CaseFault> {
-    let world = calm_world(alloc, case)?;
-    let mut printed = Vec::new(alloc);
-    print_count(b"entries ", world.entries().len() as u64, &mut printed)?;
-    print_answers(&world, &mut printed)?;
-    Ok(printed)
-}
-
-/// The replies of the history after the schedule and calm rounds, in their order.
-pub fn calmed_replies(alloc: Global, case: &Case) -> Result<Vec<u8>, CaseFault> {
-    let world = calm_world(alloc, case)?;
-    let mut printed = Vec::new(alloc);
-    print_answers(&world, &mut printed)?;
-    Ok(printed)
-}
-
-/// Prints the replies of a world in their order.
-fn print_answers(world: &World, printed: &mut Vec<u8>) -> Result<(), Memory> {
-    for entry in world.entries() {
-        if let Kind::Replied {
-            session,
-            seq,
-            reply,
-            ..
-        } = &entry.kind
-        {
-            print_answer(world.script(), *session, *seq, reply, printed)?;
-        }
-    }
-    Ok(())
-}
-
-/// The world of a case after its schedule and calm rounds.
-fn calm_world(alloc: Global, case: &Case) -> Result<World, CaseFault> {
-    let blocks = blocks_of(alloc, case.input.as_slice())?;
-    let mut world = world_of(alloc, case, blocks.as_slice())?;
-    drive(&mut world, &schedule_of(alloc, case, blocks.as_slice())?)?;
-    calm(&mut world)?;
-    Ok(world)
-}
-
-/// The name of a session, the number of a command of it, and its reply.
-fn print_answer(
-    script: &Script,
-    session: u32,
-    seq: u32,
-    reply: &Reply,
-    printed: &mut Vec<u8>,
-) -> Result<(), Memory> {
-    if let Some(plan) = script.roster().sessions.as_slice().get(session as usize) {
-        printed.extend_from_slice(plan.name.bytes())?;
-    }
-    printed.push(b' ')?;
-    print_number(u64::from(seq), printed)?;
-    printed.push(b' ')?;
-    reply.print_to(printed)?;
-    Ok(printed.push(b'\n')?)
 }
 
 /// The schedule of a case.
@@ -147,18 +72,12 @@ fn verdict(alloc: Global, world: &mut World, entries: &[Entry]) -> Result<Vec<u8
     for entry in entries {
         if !world.admit(entry)? {
             let number = (world.entries().len() as u64).saturating_add(1);
-            print_count(b"entry ", number, &mut printed)?;
+            print_count("entry", number, &mut printed)?;
             return Ok(printed);
         }
     }
-    print_count(b"lawful ", world.entries().len() as u64, &mut printed)?;
+    print_count("lawful", world.entries().len() as u64, &mut printed)?;
     Ok(printed)
-}
-
-fn print_count(word: &[u8], number: u64, printed: &mut Vec<u8>) -> Result<(), Memory> {
-    printed.extend_from_slice(word)?;
-    print_number(number, printed)?;
-    Ok(printed.push(b'\n')?)
 }
 
 /// Follows a line, and prints the entry that it gives, or `none`.

@@ -147,7 +147,7 @@ record Waiting (h : History) (order : List CommandAt) : Type 0 where
   waits : is_replied one.session one.seq h ≡ false
 
 -- one more command that is replied
-answered_first : (h : History) (one : CommandAt) (others : List CommandAt) → is_replied one.session one.seq h ≡ true → AllAnswered h others → AllAnswered h (one ∷ others)
+pub answered_first : (h : History) (one : CommandAt) (others : List CommandAt) → is_replied one.session one.seq h ≡ true → AllAnswered h others → AllAnswered h (one ∷ others)
 answered_first h one others is all = λ other among. elim among [
   | inl same ↦ subst (λ (x : CommandAt). is_replied x.session x.seq h ≡ true) (sym same) is
   | inr more ↦ all other more
@@ -186,7 +186,7 @@ all_from number (plan ∷ plans) h each =
     rw (first, rest) refl
 
 -- where the test says so, every command of these sessions is replied
-each_from : (number : ℕ) (plans : List SessionPlan) (h : History) (s c : ℕ) (plan : SessionPlan)
+pub each_from : (number : ℕ) (plans : List SessionPlan) (h : History) (s c : ℕ) (plan : SessionPlan)
     → all_replied_from number plans h ≡ true → slice_get plans s ≡ Some plan → c < length plan.planned → is_replied (s + number) (c + 1) h ≡ true
 each_from number [] h s c plan all there less = absurd cc
 each_from number (first ∷ plans) h zero c plan all there less =
@@ -201,7 +201,7 @@ each_from number (first ∷ plans) h (suc s) c plan all there less =
     subst (λ n. is_replied n (c + 1) h ≡ true) next (each_from (number + 1) plans h s c plan here.1 there less)
 
 -- where all of the order is replied, every command is
-order_all : (t : Setting) (order : List CommandAt) (h : History) → IsOrder t.roster order → AllAnswered h order → all_replied t h ≡ true
+pub order_all : (t : Setting) (order : List CommandAt) (h : History) → IsOrder t.roster order → AllAnswered h order → all_replied t h ≡ true
 order_all t order h is_order answered = all_from 0 t.roster.sessions h (λ s c plan there less.
     let number : s ≡ s + 0 = omega arith in
     subst (λ n. is_replied n (c + 1) h ≡ true) number (answered (command_at s (c + 1)) (is_order.all s c plan there less)))

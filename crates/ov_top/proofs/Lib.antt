@@ -1,7 +1,9 @@
-pub mod Entries
-pub mod Forms
 pub mod Endings
-pub mod Puts
+pub mod Walks
 pub mod Steps
-pub mod Headlines
 pub mod Replies
+pub mod Running
+pub mod Forms
+pub mod Reports
+pub mod Headlines
+pub mod Completing

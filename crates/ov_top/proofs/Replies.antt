@@ -1,126 +1,99 @@
--- Each reply of a story is the expected one.
-use Rattle.std.proofs.Common.{◌≡◌, ℕ, ◌+◌, ◌<◌, ◌≤◌, List, [], ◌∷◌, ◌++◌, Option, Some, None, refl, sym, ap, subst, ◌∙◌, arith, inl, inr}
-use Rattle.std.proofs.lemmas.Bool.{lt-ltb, le-ltb}
-use Rattle.ov_base.specs.Version.{number}
+-- The headline of a lawful history: each reply shows the script's command, at its version or at a published watermark.
+use Rattle.std.proofs.Common.{◌≡◌, ℕ, Bool, true, false, List, [], Some, refl, sym, ap, subst, ◌∙◌}
+use Rattle.std.specs.Prelude.{if◌then◌else◌}
+use Rattle.ov_functor.specs.Execution.{Map, hold, moves_of, got, reply_of}
+use Rattle.ov_functor.specs.declared.command.Command.{Command}
+use Rattle.ov_functor.specs.declared.command.Command.TheVariants as commands
+use Rattle.ov_functor.specs.declared.item.Shown.{Shown}
 use Rattle.ov_functor.specs.declared.part.Part.{Part}
 use Rattle.ov_functor.specs.declared.reply.Reply.{Reply}
-use Rattle.ov_functor.specs.Execution.{Map, empty, exec, reply_of}
-use Rattle.ov_top.specs.declared.story.FirstEntry.{FirstEntry}
-use Rattle.ov_top.specs.declared.story.FirstEntry.TheVariants.{Began, Replied}
-use Rattle.ov_top.specs.Names.{Names}
-use Rattle.ov_top.specs.Run.{entries_from, entries_of}
-use Rattle.ov_top.specs.Ending.{Ending}
-use Rattle.ov_top.specs.Causes.{Told, Counts, MeantBy, Ends}
-use Rattle.ov_top.specs.Headline.{Among, serial_from, serial_at, Expected, AllExpected}
-use Rattle.ov_top.proofs.Headlines.{work_ends}
+use Rattle.ov_functor.specs.declared.reply.Reply.TheVariants.{Done, Aborted, Snap}
+use Rattle.ov_event.specs.declared.start.Start.{Start}
+use Rattle.ov_event.specs.declared.start.Start.TheVariants.{Draw, Look}
+use Rattle.ov_history.specs.Draws.{Drawn}
+use Rattle.ov_history.specs.Past.{History, before}
+use Rattle.ov_history.specs.May.{Setting, StartsAs}
+use Rattle.ov_history.specs.Serial.{begun_at, serial_at}
+use Rattle.ov_history.specs.Settlers.{Shows, shown}
+use Rattle.ov_history.proofs.Past.{lawful_at}
+use Rattle.ov_follow.specs.Expected.{IsExpected, ShowsAt, reached}
+use Rattle.ov_laws.specs.Entries.{began_by}
+use Rattle.ov_laws.specs.Replies.{Expected, IsPublished}
+use Rattle.ov_laws.specs.Runs.{IsRun}
+use Rattle.ov_laws.proofs.Times.Begun.{drew_is_begun}
+use Rattle.ov_laws.proofs.Times.Once.{drew_at}
+use Rattle.ov_laws.proofs.Values.Begins.{folded_begins}
+use Rattle.ov_topology.specs.Shape.{Shape, IsShape}
+use Rattle.ov_script.specs.Script.{Content}
+use Rattle.ov_world.specs.Holds.{Holds}
+use Rattle.ov_world.specs.World.{setting_by}
+use Rattle.ov_world.proofs.Promises.{holds}
+use Rattle.ov_top.specs.Ending.{story_of}
+use Rattle.ov_top.specs.Headline.{IsRight, Right}
 
--- ---- the prefixes of a script's entries
+-- what a transaction's reply reaches is its version
+reaches_version : (map : Map) (version : ℕ) (transaction : List Part) → reached (reply_of map version transaction) ≡ version
+reaches_version map version transaction = by (hold map (moves_of transaction))
+  where
+    by : (b : Bool) → reached (if b then Done version (got map transaction) else Aborted version (got map transaction)) ≡ version
+    by true = refl
+    by false = refl
 
--- A prefix of the entries from a command on has none of them, or the beginning of that command alone, or both its entries and a prefix of the later ones.
-front_cases : (k : ℕ) (map : Map) (transaction : List Part) (others : List (List Part)) (P : List FirstEntry → Type 0) (front back : List FirstEntry)
-    → entries_from k map (transaction ∷ others) ≡ front ++ back
-    → P [] → P (Began k (number k 0) transaction ∷ [])
-    → ((later : List FirstEntry) → entries_from (k + 1) (exec map transaction) others ≡ later ++ back
-    → P (Began k (number k 0) transaction ∷ Replied k (reply_of map (number k 0) transaction) ∷ later))
-    → P front
-front_cases k map transaction others P [] back e none one both = none
-front_cases k map transaction others P (first ∷ []) back e none one both =
-    let q : ◌≡◌ {A = FirstEntry} (Began k (number k 0) transaction) first = cc in
-    subst (λ (x : FirstEntry). P (x ∷ [])) q one
-front_cases k map transaction others P (first ∷ second ∷ later) back e none one both =
-    let q : ◌≡◌ {A = FirstEntry} (Began k (number k 0) transaction) first = cc in
-    let r : ◌≡◌ {A = FirstEntry} (Replied k (reply_of map (number k 0) transaction)) second = cc in
-    let s : entries_from (k + 1) (exec map transaction) others ≡ later ++ back = cc in
-    subst (λ (x : FirstEntry). P (x ∷ second ∷ later)) q (subst (λ (x : FirstEntry). P (Began k (number k 0) transaction ∷ x ∷ later)) r (both later s))
+-- what began shows the command whose start it is
+shows_command : (t : Setting) (h past : History) (g s w number : ℕ) (command : Command) (start : Start) (reply : Reply) → IsRun t h
+    → ((version : ℕ) (transaction : List Part) → start ≡ Draw version transaction → begun_at h version ≡ Some transaction)
+    → StartsAs past g s command start → Shows (serial_at h) w start reply → ShowsAt h command (reached reply) reply
+shows_command t h past g s w number (commands.Transact parts) (Draw version transaction) reply run begun starts shows =
+    let at_version : reached reply ≡ version = ap reached shows.1 ∙ reaches_version (serial_at h version) version transaction in
+    rw (at_version, ← starts.0) (begun version transaction refl, shows.1 ∙ ap (λ (m : Map). reply_of m version transaction) (sym (folded_begins t h version run.1)))
+shows_command t h past g s w number (commands.Snap keys) (Look least list) reply run begun starts shows =
+    let at_mark : reached reply ≡ w = ap reached shows.1 in
+    rw (at_mark, ← starts.0) (shows.1 ∙ ap (λ (m : Map). Snap w (shown m list)) (sym (folded_begins t h w run.1)))
+shows_command t h past g s w number (commands.Transact parts) (Look least list) reply run begun starts shows = absurd starts
+shows_command t h past g s w number (commands.Snap keys) (Draw version transaction) reply run begun starts shows = absurd starts
 
--- executing what was begun below n passes over the commands whose versions are at or above n
-serial_passes : (k : ℕ) (map : Map) (script : List (List Part)) (front back : List FirstEntry) (serial : Map) (n : ℕ) → n ≤ number k 0
-    → entries_from k map script ≡ front ++ back → serial_from serial front n ≡ serial
-serial_passes k map [] [] back serial n low e = refl
-serial_passes k map [] (first ∷ front) back serial n low e = absurd cc
-serial_passes k map (transaction ∷ others) front back serial n low e =
-    front_cases k map transaction others (λ f. serial_from serial f n ≡ serial) front back e
-    refl
-    (rw (le-ltb (number k 0) n low) refl)
-    (λ later h. rw (le-ltb (number k 0) n low) (serial_passes (k + 1) (exec map transaction) others later back serial n (omega arith) h))
-
--- ---- the replies
-
--- The prefix is the last part of the whole, and the map is what executing the part before it leaves.
-record Behind (whole front : List FirstEntry) (k : ℕ) (map : Map) : Type 0 where
-  inside : (entry : FirstEntry) → Among entry front → Among entry whole
-  serial : (n : ℕ) → number k 0 ≤ n → serial_at whole n ≡ serial_from map front n
-
-behind_next : (whole later : List FirstEntry) (k : ℕ) (map : Map) (transaction : List Part) (reply : Reply)
-    → Behind whole (Began k (number k 0) transaction ∷ Replied k reply ∷ later) k map → Behind whole later (k + 1) (exec map transaction)
-behind_next whole later k map transaction reply behind = record {
-  inside = λ entry h. behind.inside entry (inr (inr h));
-  serial = λ n h. let lt : number k 0 < n = omega arith in
-      behind.serial n (omega arith) ∙ rw (lt-ltb (number k 0) n lt) refl;
-}
-
--- the reply of a command, from what was begun at lower versions
-first_expected : (whole later back : List FirstEntry) (k : ℕ) (map : Map) (transaction : List Part) (others : List (List Part))
-    → Behind whole (Began k (number k 0) transaction ∷ Replied k (reply_of map (number k 0) transaction) ∷ later) k map
-    → entries_from (k + 1) (exec map transaction) others ≡ later ++ back → Expected whole k (reply_of map (number k 0) transaction)
-first_expected whole later back k map transaction others behind e =
-    let passed : serial_from map later (number k 0) ≡ map = serial_passes (k + 1) (exec map transaction) others later back map (number k 0) (omega arith) e in
-    let before : serial_at whole (number k 0) ≡ map = behind.serial (number k 0) (omega arith) ∙ rw (le-ltb (number k 0) (number k 0) (omega arith)) passed in
+-- each reply of a lawful history is the expected one: it shows the script's command
+pub reply_expected : (t : Setting) (h : History) (g s c : ℕ) (reply : Reply) → IsRun t h → Expected h g s c reply → IsExpected t.roster h s c reply
+reply_expected t h g s c reply run x =
+    let may = lawful_at t h x.number (began_by g s c x.start) run.1 x.begun in
+    let ready = may.guard.ready in
     record {
-      version = number k 0;
-      transaction = transaction;
-      begun = behind.inside (Began k (number k 0) transaction) (inl refl);
-      shows = ap (λ (m : Map). reply_of m (number k 0) transaction) (sym before);
+      command = ready.planned.command;
+      is = record { plan = ready.plan; session = ready.session; number = _; number_is = ready.next; planned = ready.planned; planned_is = ready.further; command_is = refl };
+      shows = shows_command t h (before x.number h) g s x.watermark x.number ready.planned.command x.start reply run
+          (λ version transaction is.
+          let drawn : Drawn = record { version = version; transaction = transaction; session = s; seq = c } in
+          let drew = drew_at t h x.number (began_by g s c x.start) drawn run.1 x.begun (rw is refl) in
+          drew_is_begun t h drew.0 drawn run.1 drew.1)
+          may.guard.starts x.shows;
     }
 
--- each reply of the prefix is the expected one in the whole
-abbrev ExpectedOf : List FirstEntry → List FirstEntry → Type 0
-ExpectedOf whole front = (j : ℕ) (reply : Reply) → Among (Replied j reply) front → Expected whole j reply
+-- a snapshot's reply is at the published watermark
+snap_published : (maps : ℕ → Map) (w n : ℕ) (list : List Shown) (start : Start) → Shows maps w start (Snap n list) → n ≡ w
+snap_published maps w n list (Draw version transaction) shows = by (hold (maps version) (moves_of transaction)) shows.1
+  where
+    by : (b : Bool) → Snap n list ≡ (if b then Done version (got (maps version) transaction) else Aborted version (got (maps version) transaction)) → n ≡ w
+    by true is = absurd cc
+    by false is = absurd cc
+snap_published maps w n list (Look least keys) shows = let same : ◌≡◌ {A = Reply} (Snap n list) (Snap w (shown (maps w) keys)) = shows.1 in cc
 
-front_expected : (script : List (List Part)) (whole front back : List FirstEntry) (k : ℕ) (map : Map) → entries_from k map script ≡ front ++ back → Behind whole front k map
-    → ExpectedOf whole front
-front_expected [] whole [] back k map e behind = λ j reply h. absurd h
-front_expected [] whole (first ∷ front) back k map e behind = absurd cc
-front_expected (transaction ∷ others) whole front back k map e behind =
-    front_cases k map transaction others (λ f. Behind whole f k map → ExpectedOf whole f) front back e
-    (λ b j reply h. absurd h)
-    (λ b j reply h. elim h [
-      | inl is ↦ absurd cc
-      | inr none ↦ absurd none
-    ])
-    (λ later s b j reply h. elim h [
-      | inl is ↦ absurd cc
-      | inr second ↦ elim second [
-        | inl is ↦ let same_k : j ≡ k = cc in
-            let same : ◌≡◌ {A = Reply} reply (reply_of map (number k 0) transaction) = cc in
-            rw (same_k, same) (first_expected whole later back k map transaction others b s)
-        | inr rest ↦ front_expected others whole later back (k + 1) (exec map transaction) s (behind_next whole later k map transaction _ b) j reply rest
-      ]
-    ])
-    behind
+-- the headline follows from what is true of every world
+pub right_holds : (t : Setting) (h : History) → Holds t h → Right t h
+right_holds t h holds = record {
+  lawful = holds.lawful;
+  expected = λ g s c reply has. reply_expected t h g s c reply holds.lawful (holds.replies.expected g s c reply has);
+  begun = holds.replies.expected;
+  later = holds.replies.later;
+  snaps = holds.replies.snaps;
+  values = holds.values.each;
+  alike = holds.values.alike;
+  watermark = λ g s c n list has.
+      let x = holds.replies.expected g s c (Snap n list) has in
+      subst (IsPublished h) (sym (snap_published (serial_at h) x.watermark n list x.start x.shows)) x.published;
+  begins = holds.replies.begins;
+  replies = holds.replies.replies;
+}
 
--- the replies of a prefix of a script's entries are the expected ones
-script_expected : (script : List (List Part)) (front back : List FirstEntry) → entries_of script ≡ front ++ back → AllExpected front
-script_expected script front back e = front_expected script front front back 1 empty e (record { inside = λ entry h. h; serial = λ n h. refl })
-
--- ---- the replies of a call
-
--- the entries that are meant are those of a script
-meant_entries : (told : Told) (counts now : Counts) (words : Option Names) (end : Ending) → MeantBy told counts now words end → (script : List (List Part)) × (end.entries ≡ entries_of script)
-meant_entries told counts now None end meant = ([], ap (λ (e : Ending). e.entries) (sym meant))
-meant_entries told counts now (Some names) end meant =
-    elim meant [
-      | inl comes ↦ elim (work_ends names comes.files end comes.is) [
-        | inl stopped ↦ ([], stopped.nothing)
-        | inr executed ↦ (executed.script.transactions, ap (λ (e : Ending). e.entries) executed.is)
-      ]
-      | inr faulted ↦ ([], ap (λ (e : Ending). e.entries) (sym faulted.is))
-    ]
-
--- each reply in the story of a call is the expected one
-pub replies_expected : (told : Told) (counts now : Counts) (words : Option Names) (status : ℕ) (script : List (List Part)) (entries : List FirstEntry) (old new : Option (List ℕ))
-    → Ends told counts now words status script entries old new → AllExpected entries
-replies_expected told counts now words status script entries old new ends =
-    let meant = meant_entries told counts now words ends.end ends.meant in
-    let front = ends.story_front.1 in
-    subst AllExpected (sym front.3) (script_expected meant.0 front.0 front.1 (sym meant.1 ∙ front.2))
+-- the headline is true of a topology and a script with nothing done
+pub right_empty : (topology : Shape) (script : Content) → IsShape topology → IsRight (story_of topology script [])
+right_empty topology script shape = right_holds (setting_by topology script) [] (holds (setting_by topology script) [] (shape, tt))

@@ -1,68 +1,114 @@
--- The headline of the top call, in the store's own words. Each clause follows from how the call ended.
-use Rattle.std.specs.Prelude.{◌≡◌, ◌≤◌, ℕ, List, [], ◌∷◌, Option, Some, Ok, ◌⊎◌, length, nat_lt, if◌then◌else◌}
-use Rattle.ov_functor.specs.declared.part.Part.{Part}
+-- The headline of the top call, in the store's own words.
+use Rattle.std.specs.Prelude.{◌≡◌, ◌<◌, ◌≤◌, ◌+◌, ◌^◌, ℕ, false, List, [], length, reverse, slice_get, Option, Some, Ok}
+use Rattle.ov_functor.specs.declared.item.Shown.{Shown}
+use Rattle.ov_functor.specs.declared.item.Valued.{Valued}
 use Rattle.ov_functor.specs.declared.reply.Reply.{Reply}
-use Rattle.ov_functor.specs.Execution.{Map, empty, exec, reply_of}
+use Rattle.ov_functor.specs.declared.reply.Reply.TheVariants.{Snap}
 use Rattle.ov_io.specs.Causes.{Rose, Wrote}
-use Rattle.ov_top.specs.declared.refusal.FileWord.{FileWord}
 use Rattle.ov_topology.specs.Read.{topology_of}
-use Rattle.ov_script.specs.Script.{IsScript, script_text}
-use Rattle.ov_script.specs.declared.line.ScriptLine.{ScriptLine}
-use Rattle.ov_top.specs.declared.accept.FirstScript.{FirstScript}
-use Rattle.ov_top.specs.Form.{first_shape, served_of}
-use Rattle.ov_top.specs.declared.story.FirstEntry.{FirstEntry}
-use Rattle.ov_top.specs.declared.story.FirstEntry.TheVariants.{Began, Replied}
+use Rattle.ov_topology.specs.Shape.{Shape, gates}
+use Rattle.ov_session.specs.Events.{floor_of}
+use Rattle.ov_session.specs.declared.plan.SessionPlan.{SessionPlan}
+use Rattle.ov_script.specs.Script.{Content, IsScript, script_text}
+use Rattle.ov_script.specs.Schedule.{IsSchedule, schedule_text}
+use Rattle.ov_script.specs.declared.step.Step.{Step}
+use Rattle.ov_event.specs.declared.entry.Entry.{Entry}
+use Rattle.ov_history.specs.Past.{History}
+use Rattle.ov_history.specs.May.{Setting}
+use Rattle.ov_history.specs.Serial.{serial_at}
+use Rattle.ov_follow.specs.Calm.{all_replied}
+use Rattle.ov_follow.specs.Expected.{IsExpected}
+use Rattle.ov_follow.specs.Whole.{IsWhole}
+use Rattle.ov_laws.specs.Entries.{BeganAt, DrawnAfter, HasReply, IsSettled, RepliedAt, SnapsAfter}
+use Rattle.ov_laws.specs.Replies.{Expected, IsPublished}
+use Rattle.ov_laws.specs.Runs.{IsRun}
+use Rattle.ov_laws.specs.Values.{SettledAlike}
+use Rattle.ov_complete.specs.Once.{OnceEach}
+use Rattle.ov_world.specs.World.{setting_by}
+use Rattle.ov_world.specs.declared.story.Story.{Story}
+use Rattle.ov_report.specs.Report.{report_text}
+use Rattle.ov_top.specs.declared.refusal.FileWord.{FileWord}
 use Rattle.ov_top.specs.Names.{Names, name_at}
-use Rattle.ov_top.specs.Run.{entries_of, report_text}
-use Rattle.ov_top.specs.Ending.{Files, limit, read_fault_text}
+use Rattle.ov_top.specs.Ending.{Files, limit, read_fault_text, run_of}
 use Rattle.ov_top.specs.Causes.{Told, Counts, Agree}
 
--- ---- status 0
+-- ---- at every status
 
--- What was done: the topology is the one that is served; the script's bytes are the text of lines, which say these transactions, line by line; they were
--- executed one at a time; and what was written is the report of the replies, under the session's name in these bytes.
-pub record Performed (told : Told) (words : Option Names) (script : List (List Part)) (entries : List FirstEntry) (before after : Option (List ℕ)) : Type 0 where
+-- The headline, of a history of a topology and a script.
+pub record Right (t : Setting) (h : History) : Type 0 where
+  -- each entry could follow those before it, whatever letters were lost, repeated and reordered
+  pub lawful : IsRun t h
+  -- each reply to a command is what the script's command shows of the map that executing all begun transactions with lower versions, one at a time in the
+  -- order of their versions, gives
+  pub expected : (g s c : ℕ) (reply : Reply) → HasReply h g s c reply → IsExpected t.roster h s c reply
+  -- a transaction's reply has the version at which the command began, and a snapshot's watermark is not below its floor
+  pub begun : (g s c : ℕ) (reply : Reply) → HasReply h g s c reply → Expected h g s c reply
+  -- a transaction that begins after a reply has the greater version, and after a snapshot's reply one that is not below its watermark
+  pub later : (reply : Reply) (v : ℕ) → DrawnAfter h reply v → floor_of reply ≤ v
+  -- a snapshot after a reply of its session shows it
+  pub snaps : (s n : ℕ) (reply : Reply) → SnapsAfter h s reply n → floor_of reply ≤ n
+  -- each settled value is that of its key just after its version, in the map of all begun transactions executed one at a time
+  pub values : (x : Valued) → IsSettled h x → x.value ≡ serial_at h (x.version + 1) x.key
+  -- and so two settled values of one version and key are equal, at whichever centres
+  pub alike : SettledAlike h
+  -- the watermark of each snapshot's reply is a published one
+  pub watermark : (g s c n : ℕ) (list : List Shown) → HasReply h g s c (Snap n list) → IsPublished h n
+  -- the commands of a session begin, and are replied, in the order of their numbers, each at most once
+  pub begins : (i j s c d : ℕ) → i < j → BeganAt h i s c → BeganAt h j s d → c < d
+  pub replies : (i j s c d : ℕ) → i < j → RepliedAt h i s c → RepliedAt h j s d → c < d
+
+abbrev pub RightOf : Option Shape → Option Content → List Entry → Type 0
+RightOf (Some topology) (Some script) entries = Right (setting_by topology script) (reverse entries)
+RightOf topology script entries = entries ≡ []
+
+-- the headline is true of the story; without a topology or a script it has no entry
+abbrev pub IsRight : Story → Type 0
+IsRight story = RightOf story.topology story.script story.entries
+
+-- the entries of the story can be numbered
+abbrev pub IsShort : Story → Type 0
+IsShort story = length story.entries < 2 ^ 64
+
+-- ---- statuses 0 and 1
+
+-- What was done: the topology, the script and the schedule are those whose texts the files are, the history is that of the schedule, calmed, and its
+-- report was written.
+pub record Performed (told : Told) (words : Option Names) (story : Story) (before after : Option (List ℕ)) : Type 0 where
   pub names : Names
   pub words_are : words ≡ Some names
   pub files : Files
   pub agree : Agree told names files
-  pub topology_is : topology_of files.topology ≡ Ok first_shape
-  pub schedule_is : files.schedule ≡ []
-  pub lines : List ScriptLine
-  pub in_form : IsScript (record { gateways = 1; lines = lines })
-  pub spelled : files.script ≡ script_text lines
-  pub session : Option (List ℕ)
-  pub said : served_of lines ≡ Some (record { session = session; transactions = script })
-  pub executed : entries ≡ entries_of script
-  pub reported : Wrote before after (report_text session entries)
+  pub topology : Shape
+  pub topology_is : topology_of files.topology ≡ Ok topology
+  pub script : Content
+  pub script_form : IsScript script
+  pub script_gates : script.gateways ≡ gates topology
+  pub script_is : files.script ≡ script_text script.lines
+  pub schedule : List Step
+  pub schedule_form : IsSchedule schedule
+  pub schedule_is : files.schedule ≡ schedule_text schedule
+  pub told_topology : story.topology ≡ Some topology
+  pub told_script : story.script ≡ Some script
+  pub entries : story.entries ≡ reverse (run_of topology script schedule)
+  pub reported : Wrote before after (report_text script (reverse story.entries))
 
--- ---- every reply
+-- A story with a topology and a script, which are these.
+pub record Has (story : Story) (topology : Shape) (script : Content) : Type 0 where
+  pub topology_is : story.topology ≡ Some topology
+  pub script_is : story.script ≡ Some script
 
--- the entry is one of these
-abbrev pub Among : FirstEntry → List FirstEntry → Type 0
-Among entry [] = ⊥
-Among entry (first ∷ others) = (entry ≡ first) ⊎ Among entry others
+-- each command of the script began in exactly one entry, and was replied in exactly one
+abbrev pub AllOnce : Story → Type 0
+AllOnce story = (topology : Shape) (script : Content) → Has story topology script → (s c : ℕ) (plan : SessionPlan)
+    → slice_get (setting_by topology script).roster.sessions s ≡ Some plan → c < length plan.planned → OnceEach (reverse story.entries) s (c + 1)
 
-abbrev pub serial_from : Map → List FirstEntry → ℕ → Map
-serial_from map [] n = map
-serial_from map (Began k version transaction ∷ others) n = serial_from (if nat_lt version n then exec map transaction else map) others n
-serial_from map (Replied k reply ∷ others) n = serial_from map others n
-
--- the map after executing, one at a time, the begun transactions whose versions are below n, in the order in which they were begun, which is that of their
--- versions
-abbrev pub serial_at : List FirstEntry → ℕ → Map
-serial_at entries n = serial_from empty entries n
-
--- The reply of a command is the expected one: what executing its transaction shows of the map of all transactions begun at lower versions.
-pub record Expected (entries : List FirstEntry) (k : ℕ) (reply : Reply) : Type 0 where
-  pub version : ℕ
-  pub transaction : List Part
-  pub begun : Among (Began k version transaction) entries
-  pub shows : reply ≡ reply_of (serial_at entries version) version transaction
-
--- each reply is the expected one
-abbrev pub AllExpected : List FirstEntry → Type 0
-AllExpected entries = (k : ℕ) (reply : Reply) → Among (Replied k reply) entries → Expected entries k reply
+-- Some command is not replied, and some actor has stopped, so that the world is not whole.
+pub record Waits (story : Story) : Type 0 where
+  pub topology : Shape
+  pub script : Content
+  pub has : Has story topology script
+  pub waiting : all_replied (setting_by topology script) (reverse story.entries) ≡ false
+  pub broken : ¬ IsWhole topology (reverse story.entries)
 
 -- ---- status 7
 
@@ -76,22 +122,29 @@ pub record ReadFault (counts now : Counts) (words : Option Names) (before after 
 
 -- ---- completeness
 
--- The words are in form, and the shelf tells three files in form, of what is served so far.
+-- The words are in form, and the shelf tells three files in form.
 pub record InForm (told : Told) (words : Option Names) : Type 0 where
   pub names : Names
   pub words_are : words ≡ Some names
   pub topology : List ℕ
   pub topology_told : told names.topology ≡ Some topology
   pub topology_short : length topology ≤ limit
-  pub topology_is : topology_of topology ≡ Ok first_shape
-  pub lines : List ScriptLine
-  pub script_form : IsScript (record { gateways = 1; lines = lines })
-  pub script_told : told names.script ≡ Some (script_text lines)
-  pub script_short : length (script_text lines) ≤ limit
-  pub script : FirstScript
-  pub said : served_of lines ≡ Some script
-  pub schedule_told : told names.schedule ≡ Some []
+  pub shape : Shape
+  pub topology_is : topology_of topology ≡ Ok shape
+  pub script : Content
+  pub script_form : IsScript script
+  pub script_gates : script.gateways ≡ gates shape
+  pub script_told : told names.script ≡ Some (script_text script.lines)
+  pub script_short : length (script_text script.lines) ≤ limit
+  pub schedule : List Step
+  pub schedule_form : IsSchedule schedule
+  pub schedule_told : told names.schedule ≡ Some (schedule_text schedule)
+  pub schedule_short : length (schedule_text schedule) ≤ limit
 
 -- no count of a file word has risen
 abbrev pub NoneRose : Counts → Counts → Option Names → Type 0
 NoneRose counts now words = (names : Names) (word : FileWord) → words ≡ Some names → Rose (counts (name_at names word)) (now (name_at names word)) → ⊥
+
+-- where the story has a topology, the world is whole at its end
+abbrev pub IsWholeAtEnd : Story → Type 0
+IsWholeAtEnd story = (topology : Shape) → story.topology ≡ Some topology → IsWhole topology (reverse story.entries)

@@ -1,7 +1,8 @@
-pub mod Form
-pub mod Run
-pub mod Engine
+pub mod Words
+pub mod Parsing
 pub mod Names
+pub mod Form
 pub mod Ending
+pub mod Reading
 pub mod Causes
 pub mod Headline

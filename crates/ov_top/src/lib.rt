@@ -1,26 +1,27 @@
 //! The top calls: everything that the program does, over the words of its command line and the shelf and
 //! the sink that it is handed.
 //!
-//! The promise to `main`: [`stepped_top`] reads the files in the order of work, executes the script's
-//! transactions one at a time and writes the report, or ends with the named status of the first cause that
-//! applies; its clauses say which, over the words, the bytes that the shelf tells, the story and the bytes
-//! written.
+//! The promise to `main`: [`stepped_top`] reads the files in the order of work, follows the schedule over a
+//! world of the topology and the script, calms the world and writes the report, or ends with the named status
+//! of the first cause that applies. Its clauses carry the headline of the store: every reply is what executing
+//! all begun transactions one at a time in the order of their versions gives.
 //!
-//! Start with `specs/Ending.antt`, the order of work as one function of the words and the files' bytes, and
-//! with `specs/Run.antt`, what executing a script gives.
+//! Start with `specs/Headline.antt`, the headline in the store's own words, and `specs/Ending.antt`, the order
+//! of work as one function of the words and the files' bytes; then `src/step.rt`.
 #![tactic(auto)]
 
-mod accept;
-mod engine;
+mod file;
+mod names;
 mod prepare;
 mod refusal;
+mod run;
 mod step;
-mod story;
 mod words;
 mod write;
 
+pub use ov_world::Story;
 pub use step::stepped_top;
-pub use story::{FirstEntry, Story};
+pub use words::{FileName, Order, command_of};
 
 #[cfg(test)]
 mod tests;

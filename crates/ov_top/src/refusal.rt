@@ -1,7 +1,7 @@
-//! Why a call ends before it executes anything.
+//! Why a call ends before it follows anything.
 ghost use Rattle.std.specs.Prelude.{◌≡◌};
 ghost use Rattle.ov_base.specs.Word.{Printed};
-ghost use Rattle.ov_top.specs.Form.{form_line, form_status, not_built_line};
+ghost use Rattle.ov_top.specs.Form.{form_line, form_status};
 
 use ov_base::Memory;
 use ov_script::{ScheduleError, ScriptError};
@@ -27,20 +27,18 @@ pub(crate) enum FormFault {
     Script(ScriptError),
     /// The schedule is refused.
     Schedule(ScheduleError),
-    /// This file is accepted, but what it asks for is not served yet.
-    NotBuilt(FileWord),
 }
 
-/// Why nothing is executed, one variant a cause (docs/STORE.md, Statuses).
+/// Why a call ends before it follows anything, one variant a cause.
 #[derive(Debug, Drop)]
 pub(crate) enum Refusal {
     /// Out of memory.
     Memory,
-    /// The read of this file failed.
+    /// The read of this file failed, and the shelf has counted it.
     Failed(FileWord),
     /// This file is longer than the limit.
     TooLong(FileWord),
-    /// The bytes of a file are refused.
+    /// The bytes of a file are off their form.
     Form(FormFault),
 }
 
@@ -53,7 +51,6 @@ impl FormFault {
             FormFault::Topology(_) => 3,
             FormFault::Script(_) => 4,
             FormFault::Schedule(_) => 5,
-            FormFault::NotBuilt(word) => status_of_word(*word),
         }
     }
 
@@ -65,27 +62,6 @@ impl FormFault {
             FormFault::Topology(error) => error.print_to(text),
             FormFault::Script(error) => error.print_to(text),
             FormFault::Schedule(error) => error.print_to(text),
-            FormFault::NotBuilt(word) => print_not_built(*word, text),
         }
-    }
-}
-
-fn status_of_word(word: FileWord) -> u8
-    ensures { result ≡ form_status (FormFault.NotBuilt word) }
-{
-    match word {
-        FileWord::Topology => 3,
-        FileWord::Script => 4,
-        FileWord::Schedule => 5,
-    }
-}
-
-fn print_not_built(word: FileWord, text: &mut Vec<u8>) -> Result<(), Memory>
-    ensures { Printed result text.old.items text.new.items (not_built_line word) }
-{
-    match word {
-        FileWord::Topology => Ok(text.extend_from_slice(b"topology: not built")?),
-        FileWord::Script => Ok(text.extend_from_slice(b"script: not built")?),
-        FileWord::Schedule => Ok(text.extend_from_slice(b"schedule: not built")?),
     }
 }

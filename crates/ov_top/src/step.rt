@@ -1,32 +1,35 @@
 //! The command `step`: the reading half, the run, and the writing half.
-ghost use Rattle.std.specs.Prelude.{◌≡◌, ◌⊎◌, [], map, string_bytes, Some};
-ghost use Rattle.ov_io.specs.Causes.{Rose};
+ghost use Rattle.std.specs.Prelude.{◌≡◌, ◌≢◌, ◌⊎◌, map, string_bytes, Some};
+ghost use Rattle.ov_io.specs.Causes.{Rose, NoneRoseTwice, SameCounts};
 ghost use Rattle.ov_top.specs.Causes.{Ends};
-ghost use Rattle.ov_top.specs.Ending.{file_words};
-ghost use Rattle.ov_top.specs.Headline.{Performed, AllExpected, ReadFault, InForm, NoneRose};
-ghost use Rattle.ov_top.specs.Names.{names_seen};
+ghost use Rattle.ov_top.specs.Ending.{nothing};
+ghost use Rattle.ov_top.specs.Headline.{AllOnce, InForm, IsRight, IsShort, IsWholeAtEnd, NoneRose, Performed, ReadFault, Waits};
+ghost use Rattle.ov_top.specs.Names.{file_words, names_seen};
 
-use crate::engine::execute;
+use crate::names::FileNames;
 use crate::prepare::prepare;
-use crate::story::Story;
-use crate::words::{FileNames, parse_words};
+use crate::run::run;
+use crate::words::{Order, command_of};
 use crate::write::{put_refusal, put_report, put_usage};
 use ov_io::{Shelf, Sink};
+use ov_world::Story;
 use std::alloc::Global;
 
-/// All that the program does so far: `step` over a topology of one gateway and one node, a script of one
-/// session and an empty schedule. It returns the status (docs/STORE.md, Statuses), and the story says what
-/// was read, begun and replied. Condition: the story is empty.
+/// The command `step`: it follows a schedule over a world of the topology and the script, calms the world, and writes the report. It returns
+/// the status (docs/STORE.md, Statuses), and the story says what was read and done. Condition: the story is empty.
 ///
-/// - `done`: at 0 the script is what the bytes spell, the entries are those of executing it, and the report
-///   was written.
-/// - `expected`: each reply in the story is what executing all transactions begun at lower versions, one at
-///   a time, shows.
-/// - `read`: 7 comes only where the read of a file word failed and was counted; `write`: 8 only where the
-///   sink has counted a fault.
-/// - `ends`: every other status, its text and the story are those of the order of work; at 8 and 9 a prefix
-///   of the text that was meant was written.
-/// - `complete`: with words and files in form and no risen count the status is 0 or, out of memory, 9.
+/// - `right`: whatever the status, the story's history is lawful, each reply in it is the expected one, what begins after a reply has the
+///   greater version, each value is that of executing all begun transactions one at a time in version order, at every centre, and each snapshot
+///   is at a published watermark.
+/// - `done`: at 0 and 1 the topology, the script and the schedule are those whose texts the files are; the history is that of the schedule, calmed;
+///   and the report of it was written.
+/// - `all`: at 0 each command of the script began in exactly one entry and was replied in exactly one. `waits`: at 1 some command is not replied,
+///   and the world is not whole.
+/// - `read`: 7 comes only where the read of a file word failed and was counted; `write`: 8 only where the sink has counted a fault.
+/// - `ends`: the status, the text and the story are those of the order of work; at 8 and 9 a prefix of the text that was meant was written, and
+///   at 9 the story has first entries of those that were meant.
+/// - `complete`: with words and files in form, no risen count, and a world that is whole at its end, the status is 0 or, out of memory, 9.
+/// - `quiet`, `once`, `sink`: no count rises in a call that meets no fault, and none by more than one.
 pub fn stepped_top<F: Shelf, K: Sink>(
     alloc: Global,
     words: &[String],
@@ -34,18 +37,24 @@ pub fn stepped_top<F: Shelf, K: Sink>(
     out: &mut K,
     story: &mut Story,
 ) -> u8
-    requires { story.old ≡ record { script = []; entries = [] } }
-    ensures done { result ≡ 0 → Performed (F.told shelf.old) (file_words (map string_bytes words.now)) story.new.script story.new.entries (K.written out.old) (K.written out.new) }
-    ensures expected { AllExpected story.new.entries }
+    requires { story.old ≡ nothing }
+    ensures right { IsRight story.new }
+    ensures done { (result ≡ 0) ⊎ (result ≡ 1) → Performed (F.told shelf.old) (file_words (map string_bytes words.now)) story.new (K.written out.old) (K.written out.new) }
+    ensures all { result ≡ 0 → AllOnce story.new }
+    ensures waits { result ≡ 1 → Waits story.new }
     ensures read { result ≡ 7 → ReadFault (F.faults shelf.old) (F.faults shelf.new) (file_words (map string_bytes words.now)) (K.written out.old) (K.written out.new) }
     ensures write { result ≡ 8 → Rose (K.faults out.old) (K.faults out.new) }
-    ensures ends { Ends (F.told shelf.old) (F.faults shelf.old) (F.faults shelf.new) (file_words (map string_bytes words.now)) result story.new.script story.new.entries (K.written out.old) (K.written out.new) }
+    ensures ends { Ends (F.told shelf.old) (F.faults shelf.old) (F.faults shelf.new) (file_words (map string_bytes words.now)) result story.new (K.written out.old) (K.written out.new) }
     ensures complete { InForm (F.told shelf.old) (file_words (map string_bytes words.now)) → NoneRose (F.faults shelf.old) (F.faults shelf.new) (file_words (map string_bytes words.now))
-        → ¬ Rose (K.faults out.old) (K.faults out.new) → (result ≡ 0) ⊎ (result ≡ 9) }
+        → ¬ Rose (K.faults out.old) (K.faults out.new) → IsWholeAtEnd story.new → (result ≡ 0) ⊎ (result ≡ 9) }
+    ensures quiet { result ≢ 7 → result ≢ 8 → result ≢ 9 → SameCounts (F.faults shelf.old) (F.faults shelf.new) }
+    ensures once { NoneRoseTwice (F.faults shelf.old) (F.faults shelf.new) }
+    ensures sink { result ≢ 8 → K.faults out.new ≡ K.faults out.old }
 {
     step_by(alloc, words, shelf, out, story)
 }
 
+/// Does what the words ask for.
 fn step_by<F: Shelf, K: Sink>(
     alloc: Global,
     words: &[String],
@@ -53,16 +62,38 @@ fn step_by<F: Shelf, K: Sink>(
     out: &mut K,
     story: &mut Story,
 ) -> u8
-    requires { story.old ≡ record { script = []; entries = [] } }
-    ensures ends { Ends (F.told shelf.old) (F.faults shelf.old) (F.faults shelf.new) (file_words (map string_bytes words.now)) result story.new.script story.new.entries (K.written out.old) (K.written out.new) }
+    requires { story.old ≡ nothing }
+    ensures right { IsRight story.new }
+    ensures short { IsShort story.new }
+    ensures ends { Ends (F.told shelf.old) (F.faults shelf.old) (F.faults shelf.new) (file_words (map string_bytes words.now)) result story.new (K.written out.old) (K.written out.new) }
     ensures write { result ≡ 8 → Rose (K.faults out.old) (K.faults out.new) }
+    ensures quiet { result ≢ 7 → result ≢ 8 → result ≢ 9 → SameCounts (F.faults shelf.old) (F.faults shelf.new) }
+    ensures once { NoneRoseTwice (F.faults shelf.old) (F.faults shelf.new) }
+    ensures sink { result ≢ 8 → K.faults out.new ≡ K.faults out.old }
 {
-    match parse_words(words) {
-        None => put_usage(alloc, out),
-        Some(names) => step(alloc, &names, shelf, out, story),
+    match command_of(alloc, words) {
+        Err(_) => 9,
+        Ok(None) => put_usage(alloc, out),
+        Ok(
+            Some(
+                Order::Step {
+                    topology,
+                    script,
+                    schedule,
+                },
+            ),
+        ) => {
+            let names = FileNames {
+                topology: topology.as_str(),
+                script: script.as_str(),
+                schedule: schedule.as_str(),
+            };
+            step(alloc, &names, shelf, out, story)
+        }
     }
 }
 
+/// The command `step` over these files.
 fn step<F: Shelf, K: Sink>(
     alloc: Global,
     names: &FileNames<'_>,
@@ -70,17 +101,20 @@ fn step<F: Shelf, K: Sink>(
     out: &mut K,
     story: &mut Story,
 ) -> u8
-    requires { story.old ≡ record { script = []; entries = [] } }
-    ensures ends { Ends (F.told shelf.old) (F.faults shelf.old) (F.faults shelf.new) (Some (names_seen names.now)) result story.new.script story.new.entries (K.written out.old) (K.written out.new) }
+    requires { story.old ≡ nothing }
+    ensures right { IsRight story.new }
+    ensures short { IsShort story.new }
+    ensures ends { Ends (F.told shelf.old) (F.faults shelf.old) (F.faults shelf.new) (Some (names_seen names.now)) result story.new (K.written out.old) (K.written out.new) }
     ensures write { result ≡ 8 → Rose (K.faults out.old) (K.faults out.new) }
+    ensures quiet { result ≢ 7 → result ≢ 8 → result ≢ 9 → SameCounts (F.faults shelf.old) (F.faults shelf.new) }
+    ensures once { NoneRoseTwice (F.faults shelf.old) (F.faults shelf.new) }
+    ensures sink { result ≢ 8 → K.faults out.new ≡ K.faults out.old }
 {
     match prepare(alloc, names, shelf, story) {
         Err(refusal) => put_refusal(alloc, names, refusal, out),
-        Ok(session) => {
-            match execute(alloc, story.script.as_slice(), &mut story.entries) {
-                Err(_) => 9,
-                Ok(()) => put_report(alloc, session, story.entries.as_slice(), out),
-            }
-        }
+        Ok(accepted) => match run(alloc, accepted, story) {
+            Err(_) => 9,
+            Ok(()) => put_report(alloc, story, out),
+        },
     }
 }

@@ -44,13 +44,13 @@ fn words_of(alloc: Global) -> Result<Vec<String>, AllocError> {
 }
 
 /// Runs the words over the files, where the reads and the puts with these numbers fail: the status and the
-/// text that is written are these, and the story has so many commands and entries.
+/// text that is written are these, and the story has a topology and a script or not, and so many entries.
 fn check(
     rt: &impl Abort,
     alloc: Global,
     (reads, puts): (&[u64], &[u64]),
     (status, written): (u8, &str),
-    (commands, entries): (usize, usize),
+    (topology, script, entries): (bool, bool, usize),
 ) -> Result<(), Fail> {
     let words = words_of(alloc)?;
     let mut shelf = MemoryShelf::of(files_of(alloc)?, Vec::from_slice(alloc, reads)?);
@@ -59,28 +59,31 @@ fn check(
     let found = stepped_top(alloc, words.as_slice(), &mut shelf, &mut out, &mut story);
     assert_eq!(rt; found, status);
     assert_eq!(rt; out.written(), written.as_bytes());
-    assert_eq!(rt; story.script.len(), commands);
+    assert_eq!(rt; story.topology.is_some(), topology);
+    assert_eq!(rt; story.script.is_some(), script);
     assert_eq!(rt; story.entries.len(), entries);
     Ok(())
 }
 
 #[test]
 fn a_failing_shelf_is_a_read_fault(rt: HostRuntime) -> Result<(), Fail> {
-    for (read, text, commands) in [
-        (1, "read fault: a\n", 0),
-        (2, "read fault: b\n", 0),
-        (3, "read fault: c\n", 2),
+    for (read, text, topology, script) in [
+        (1, "read fault: a\n", false, false),
+        (2, "read fault: b\n", true, false),
+        (3, "read fault: c\n", true, true),
     ] {
-        check(&rt, rt.alloc(), (&[read], &[]), (7, text), (commands, 0))?;
+        let story = (topology, script, 0);
+        check(&rt, rt.alloc(), (&[read], &[]), (7, text), story)?;
     }
     Ok(())
 }
 
 #[test]
 fn a_failing_sink_leaves_the_lines_before(rt: HostRuntime) -> Result<(), Fail> {
-    check(&rt, rt.alloc(), (&[], &[1]), (8, ""), (2, 4))?;
-    check(&rt, rt.alloc(), (&[], &[2]), (8, "a 1 done 1.0\n"), (2, 4))?;
-    check(&rt, rt.alloc(), (&[1], &[1]), (8, ""), (0, 0))
+    let story = (true, true, 24);
+    check(&rt, rt.alloc(), (&[], &[1]), (8, ""), story)?;
+    check(&rt, rt.alloc(), (&[], &[2]), (8, "a 1 done 1.0\n"), story)?;
+    check(&rt, rt.alloc(), (&[1], &[1]), (8, ""), (false, false, 0))
 }
 
 #[test]

@@ -1,16 +1,27 @@
-use Rattle.ov_top.proofs.Headlines.{performed, read_faulted, completes}
-use Rattle.ov_top.proofs.Replies.{replies_expected}
+use Rattle.std.proofs.Common.{◌≡◌, ◌≤◌, ℕ, ◌⊎◌, inl, inr, arith}
+use Rattle.ov_top.proofs.Headlines.{performed, all_are_once, read_faulted}
+use Rattle.ov_top.proofs.Completing.{waits, completes}
 use Rattle.ov_top.proofs.step.stepped_top.Goals as goal
 
-pub returns-clause-done : goal.returns-clause-done
-returns-clause-done g c = λ zero. performed (g.F.Shelf.told c.args.shelf.now) (g.F.Shelf.faults c.args.shelf.now) (g.F.Shelf.faults c.step_by.new.shelf) _ _ _ _ _ _ c.step_by.ensures.ends zero
+low : (status : ℕ) → (status ≡ 0) ⊎ (status ≡ 1) → status ≤ 1
+low status (inl zero) = omega (arith, zero)
+low status (inr one) = omega (arith, one)
 
-pub returns-clause-expected : goal.returns-clause-expected
-returns-clause-expected g c = replies_expected (g.F.Shelf.told c.args.shelf.now) (g.F.Shelf.faults c.args.shelf.now) (g.F.Shelf.faults c.step_by.new.shelf) _ _ _ _ _ _ c.step_by.ensures.ends
+pub returns-clause-done : goal.returns-clause-done
+returns-clause-done g c = λ either. performed (g.F.Shelf.told c.args.shelf.now) (g.F.Shelf.faults c.args.shelf.now) (g.F.Shelf.faults c.step_by.new.shelf) _ _ _ _ _ c.step_by.ensures.ends
+    (low c.step_by.result either)
+
+pub returns-clause-all : goal.returns-clause-all
+returns-clause-all g c = λ zero. all_are_once (g.F.Shelf.told c.args.shelf.now) (g.F.Shelf.faults c.args.shelf.now) (g.F.Shelf.faults c.step_by.new.shelf) _ _ _ _ _ c.step_by.ensures.ends
+    c.step_by.ensures.right zero
+
+pub returns-clause-waits : goal.returns-clause-waits
+returns-clause-waits g c = λ one. waits (g.F.Shelf.told c.args.shelf.now) (g.F.Shelf.faults c.args.shelf.now) (g.F.Shelf.faults c.step_by.new.shelf) _ _ _ _ _ c.step_by.ensures.ends
+    c.step_by.ensures.short one
 
 pub returns-clause-read : goal.returns-clause-read
-returns-clause-read g c = λ seven. read_faulted (g.F.Shelf.told c.args.shelf.now) (g.F.Shelf.faults c.args.shelf.now) (g.F.Shelf.faults c.step_by.new.shelf) _ _ _ _ _ _ c.step_by.ensures.ends seven
+returns-clause-read g c = λ seven. read_faulted (g.F.Shelf.told c.args.shelf.now) (g.F.Shelf.faults c.args.shelf.now) (g.F.Shelf.faults c.step_by.new.shelf) _ _ _ _ _ c.step_by.ensures.ends seven
 
 pub returns-clause-complete : goal.returns-clause-complete
-returns-clause-complete g c = λ form none sound. completes (g.F.Shelf.told c.args.shelf.now) (g.F.Shelf.faults c.args.shelf.now) (g.F.Shelf.faults c.step_by.new.shelf) _ _ _ _ _ _
-    c.step_by.ensures.ends form none (λ eight. sound (c.step_by.ensures.write eight))
+returns-clause-complete g c = λ form none sound whole. completes (g.F.Shelf.told c.args.shelf.now) (g.F.Shelf.faults c.args.shelf.now) (g.F.Shelf.faults c.step_by.new.shelf) _ _ _ _ _
+    c.step_by.ensures.ends c.step_by.ensures.short form none (λ eight. sound (c.step_by.ensures.write eight)) whole
