@@ -3,6 +3,8 @@ pub mod Lists
 pub mod Readers
 pub mod Numbers
 pub mod Keys
+pub mod Padding
+pub mod Words
 pub mod Splits
 pub mod Versions
 pub mod Amounts
@@ -13,3 +15,4 @@ pub mod GroupTexts
 pub mod GroupedWords
 pub mod Printing
 pub mod LineTexts
+pub mod SmallSets

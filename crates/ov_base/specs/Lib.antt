@@ -9,3 +9,4 @@ pub mod Amount
 pub mod Version
 pub mod Value
 pub mod Lemmas
+pub mod Small

@@ -1,9 +1,10 @@
 //! Keys: the names of values.
-ghost use Rattle.std.specs.Prelude.{◌≡◌, ◌<◌, ◌≤◌, ◌++◌, length, IsTrue, ◌↔◌, refl, Some};
+ghost use Rattle.std.specs.Prelude.{◌≡◌, ◌<◌, ◌≤◌, ◌+◌, ◌++◌, length, take, drop, nat_eq, IsTrue, ◌↔◌, refl, Some};
 ghost use Rattle.std.specs.List.{list_any};
 ghost use Rattle.std.specs.Ordering.{nat_cmp};
 ghost use Rattle.std.specs.Cmp.{partial_equiv_from_equiv};
-ghost use Rattle.std.specs.Cmp.Lexicographic.{slice_cmp, nat_list_cmp_total};
+ghost use Rattle.std.specs.Cmp.Lexicographic.{pointwise, slice_cmp, nat_list_cmp_total};
+ghost use Rattle.std.specs.Int.{w64, from_be_bytes};
 ghost use Rattle.ov_base.specs.Word.{Reads, itself};
 ghost use Rattle.ov_base.specs.Key as spec;
 ghost use Rattle.ov_base.specs.Key.{IsKey, all_key_bytes, is_key_byte, key_of, key_eq};
@@ -106,14 +107,59 @@ fn stands_in_keys(byte: u8) -> bool
         || (97 <= byte && byte <= 122)
 }
 
+/// Whether all cells are the same: four words of eight cells, each read at once.
+fn same_cells(cells: &[u8; 32], others: &[u8; 32]) -> bool
+    ensures { result ≡ pointwise nat_eq cells.now others.now }
+{
+    (word_at(cells, 0) == word_at(others, 0))
+        & (word_at(cells, 8) == word_at(others, 8))
+        & (word_at(cells, 16) == word_at(others, 16))
+        & (word_at(cells, 24) == word_at(others, 24))
+}
+
+/// How the cells are ordered: the first of four words that differs decides.
+fn cells_order(cells: &[u8; 32], others: &[u8; 32]) -> Ordering
+    ensures { result ≡ slice_cmp nat_cmp cells.now others.now }
+{
+    let (first, other) = (word_at(cells, 0), word_at(others, 0));
+    if first != other {
+        return first.cmp(&other);
+    }
+    let (second, other) = (word_at(cells, 8), word_at(others, 8));
+    if second != other {
+        return second.cmp(&other);
+    }
+    let (third, other) = (word_at(cells, 16), word_at(others, 16));
+    if third != other {
+        return third.cmp(&other);
+    }
+    word_at(cells, 24).cmp(&word_at(others, 24))
+}
+
+/// The number that eight cells spell from a place on, the first cell the most significant.
+fn word_at(cells: &[u8; 32], at: usize) -> u64
+    requires { at + 8 ≤ 32 }
+    ensures { result ≡ from_be_bytes w64 (take 8 (drop at cells.now)) }
+{
+    u64::from_be_bytes([
+        cells[at],
+        cells[at + 1],
+        cells[at + 2],
+        cells[at + 3],
+        cells[at + 4],
+        cells[at + 5],
+        cells[at + 6],
+        cells[at + 7],
+    ])
+}
+
 impl PartialEq for Key {
     ghost eq = { key_eq };
 
     ghost laws = { partial_equiv_from_equiv key_eq-equiv };
 
-    #[tactic(auto, unfolding(crate::specs::Key::key_eq))]
     fn eq(&self, other: &Self) -> bool {
-        self.bytes() == other.bytes()
+        same_cells(&self.cells, &other.cells)
     }
 }
 
@@ -141,7 +187,7 @@ impl Ord for Key {
     ghost matches_eq = { key_eq-ties };
 
     fn cmp(&self, other: &Self) -> Ordering {
-        self.bytes().cmp(other.bytes())
+        cells_order(&self.cells, &other.cells)
     }
 }
 

@@ -4,7 +4,7 @@ ghost use Rattle.ov_base.specs.Exact.{lists_same};
 ghost use Rattle.ov_base.specs.Lemmas.{lists_same-per, lists_same-equiv, lists_same-exact};
 
 use crate::memory::Memory;
-use crate::plain::Plain;
+use crate::plain::{Plain, copied};
 use std::alloc::Global;
 use std::marker::Model;
 
@@ -121,10 +121,6 @@ impl<T: Plain + Drop> Plain for Sequence<T> {
     ghost exact = { lists_same-exact T.PartialEq.eq T.exact };
 
     fn copy(&self) -> Result<Self, Memory> {
-        let mut copied = Sequence::with_capacity(*self.items.allocator(), self.len())?;
-        for item in self.as_slice() {
-            copied.push(item.copy()?)?;
-        }
-        Ok(copied)
+        Ok(Sequence::from_vec(copied(*self.items.allocator(), self.as_slice())?))
     }
 }

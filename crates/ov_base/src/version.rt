@@ -20,31 +20,24 @@ pub const TIME_LIMIT: u64 = 1 << 47;
 /// The gates of versions are below this number.
 pub const GATE_LIMIT: u64 = 65_536;
 
-/// When a transaction was begun, below `2^47`, and at which gateway, up to 65535. Contracts see its number,
-/// `time * 65536 + gate`, and versions are ordered by it (docs/STORE.md, Versions).
+/// When a transaction was begun, below `2^47`, and at which gateway, up to 65535. It is kept as its number,
+/// `time * 65536 + gate`, which contracts see and by which versions are ordered (docs/STORE.md, Versions).
 #[derive(Clone, Copy, Debug)]
 pub struct Version {
-    time: u64,
-    gate: u32,
+    number: u64,
 }
 
 impl Model for Version {
     ghost use Rattle.std.specs.Prelude.{ℕ};
-    ghost use Rattle.ov_base.specs.Lemmas.{time_back, gate_back};
-    ghost use Rattle.ov_base.specs.Version.{number, time_of, gate_of, IsInForm};
+    ghost use Rattle.ov_base.specs.Version.{IsVersion};
 
     ghost Value = { ℕ };
 
-    ghost view = { λ v. number v.time v.gate };
+    ghost view = { λ v. v.number };
 
-    ghost invariant = { λ v. IsInForm v.time v.gate };
+    ghost invariant = { λ v. IsVersion v.number };
 
-    ghost inverse = { λ n. record { time = time_of n; gate = gate_of n } };
-
-    ghost inverse_ok = { λ v h i. record {
-      time = time_back v.time v.gate h i;
-      gate = gate_back v.time v.gate h i;
-    } };
+    ghost inverse = { λ n. record { number = n } };
 }
 
 impl Version {
@@ -54,7 +47,9 @@ impl Version {
         ensures value { IfSome result (λ v. v ≡ number time gate) }
     {
         if time < TIME_LIMIT && u64::from(gate) < GATE_LIMIT {
-            Some(Version { time, gate })
+            Some(Version {
+                number: time * GATE_LIMIT + u64::from(gate),
+            })
         } else {
             None
         }
@@ -66,10 +61,7 @@ impl Version {
         ensures value { IfSome result (λ v. v ≡ number) }
     {
         if number < (1 << 63) {
-            Some(Version {
-                time: number / GATE_LIMIT,
-                gate: (number % GATE_LIMIT) as u32,
-            })
+            Some(Version { number })
         } else {
             None
         }
@@ -80,21 +72,21 @@ impl Version {
         ensures value { result ≡ self }
         ensures form { IsVersion self }
     {
-        self.time * GATE_LIMIT + u64::from(self.gate)
+        self.number
     }
 
     /// Its time.
     pub fn time(self) -> u64
         ensures { result ≡ time_of self }
     {
-        self.time
+        self.number / GATE_LIMIT
     }
 
     /// Its gate.
     pub fn gate(self) -> u32
         ensures { result ≡ gate_of self }
     {
-        self.gate
+        (self.number % GATE_LIMIT) as u32
     }
 
     /// The version that the bytes spell, as `TIME.GATE`. None exactly where they spell none. Does not allocate.
@@ -146,8 +138,7 @@ fn version_read(text: &[u8]) -> Option<Version>
     let gate = parse_number(gate)?;
     if time < TIME_LIMIT && gate < GATE_LIMIT {
         Some(Version {
-            time,
-            gate: gate as u32,
+            number: time * GATE_LIMIT + gate,
         })
     } else {
         None
