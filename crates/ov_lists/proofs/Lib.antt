@@ -5,7 +5,6 @@ pub mod Places
 pub mod Numbering
 pub mod Parts
 pub mod Picked
-pub mod Heads
 pub mod NextKey
 pub mod Thinning
 pub mod Laws

@@ -1,7 +1,7 @@
 -- Parts of a list: where each begins, and what an edit of one means for the whole.
 use Rattle.std.proofs.Common.{◌≡◌, ℕ, zero, suc, ◌+◌, ◌-◌, ◌*◌, ◌<◌, ◌≤◌, List, [], ◌∷◌, ◌++◌, length, get_or, set, take, drop, insert, refl, sym, ap, ◌∙◌, arith}
 use Rattle.std.specs.List.{AllByRecursion, range_with_len}
-use Rattle.std.proofs.lemmas.List.{length-append, append_assoc, get_or_append_left, get_or-append-add, take-append-drop, append-nil, length-take-le, length-drop}
+use Rattle.std.proofs.lemmas.List.{length-append, append_assoc, get_or_default, get_or_append_left, get_or-append-add, take-append-drop, append-nil, length-take-le, length-drop}
 use Rattle.std.proofs.lemmas.List.Edits.{insert-append_left, insert-append_right}
 use Rattle.ov_lists.specs.Parts.{flat, part_at, start, place_in, IsWithin}
 
@@ -35,7 +35,7 @@ module _ {X : Type 0} where
   position_within (part ∷ parts) block offset h = omega (arith, ends_within (part ∷ parts) block (h.there (omega arith)), h.within)
 
   -- what stands at an offset of a part stands there in the whole
-  pub flat_at : (parts : List (List X)) (i offset : ℕ) (d : X) → i < length parts → offset < length (part_at parts i)
+  flat_at : (parts : List (List X)) (i offset : ℕ) (d : X) → i < length parts → offset < length (part_at parts i)
       → get_or (flat parts) (start parts i + offset) d ≡ get_or (part_at parts i) offset d
   flat_at [] i offset d lt within = absurd (omega arith)
   flat_at (part ∷ parts) zero offset d lt within =
@@ -44,6 +44,13 @@ module _ {X : Type 0} where
   flat_at (part ∷ parts) (suc i) offset d lt within =
       let along : (length part + start parts i) + offset ≡ length part + (start parts i + offset) = omega arith in
       ap (λ n. get_or (part ++ flat parts) n d) along ∙ get_or-append-add part (flat parts) (start parts i + offset) d ∙ flat_at parts i offset d (omega arith) within
+
+  -- what was read of a part stands at its place in the whole
+  pub read_flat : (parts : List (List X)) (i offset : ℕ) (part : List X) (d : X) → i < length parts → part ≡ part_at parts i → offset < length part
+      → get_or part offset d ≡ get_or (flat parts) (place_in parts i offset) (get_or part offset d)
+  read_flat parts i offset part d lt same within =
+      let e = get_or part offset d in
+      get_or_default part offset d e within ∙ ap (λ (t : List X). get_or t offset e) same ∙ sym (flat_at parts i offset e lt (omega (arith, within, ap length same)))
 
   -- ---- edits
 

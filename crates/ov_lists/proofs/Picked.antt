@@ -1,13 +1,14 @@
 -- The items at places: how many, which, and one more.
 use Rattle.std.proofs.Common.{◌≡◌, ℕ, zero, suc, ◌+◌, ◌<◌, ◌≤◌, List, [], ◌∷◌, ◌++◌, length, map, get_or, insert, refl, sym, ap, subst, ◌∙◌, arith, IsPermutation, IsSortedBy}
 use Rattle.std.specs.List.{AllByRecursion, range_with_len}
-use Rattle.std.proofs.lemmas.List.FromFn.{length-range_with_len, fill_by_all}
+use Rattle.std.proofs.lemmas.List.FromFn.{fill_by_all}
 use Rattle.std.proofs.lemmas.List.Elements.{All-from_recursion, recursion_from_All}
 use Rattle.std.proofs.lemmas.List.Sorted.{IsPermutation-refl, IsPermutation-map, IsPermutation-sym, IsPermutation-trans, IsPermutation-cons, IsPermutation-to_front, IsPermutation-insert, All-permutation, length_permutation}
 use Rattle.std.proofs.lemmas.Option.{slice_get-get_or}
-use Rattle.ov_base.proofs.Lists.{get_front, get_next}
+use Rattle.ov_base.proofs.Lists.{all_at, get_front, get_next}
 use Rattle.ov_lists.specs.Entries.{Entry, stands_before}
-use Rattle.ov_lists.specs.Parts.{flat, picked, listed, IsIndex}
+use Rattle.ov_lists.specs.Parts.{flat, part_at, place_in, picked, listed, IsIndex}
+use Rattle.ov_lists.proofs.Parts.{read_flat, ends_within}
 use Rattle.ov_lists.proofs.Sorting.{Stays, stays_from, ordered_again}
 
 -- ---- all places
@@ -74,6 +75,18 @@ module _ {X : Type 0} where
 pub index_below : {T : Type 0} (items : List (Entry T)) (parts : List (List ℕ)) → IsIndex items parts → AllByRecursion (λ p. p < length items) (flat parts)
 index_below items parts h = places_below (length items) (flat parts) h.all
 
+-- a place that was read of a part is one of an item, and that item is listed there
+pub read_part : {T : Type 0} (items : List (Entry T)) (parts : List (List ℕ)) (i offset : ℕ) (part : List ℕ) → IsIndex items parts → i < length parts → part ≡ part_at parts i → offset < length part
+    → (get_or part offset 0 < length items) × ((e : Entry T) → e ≡ get_or items (get_or part offset 0) e → e ≡ get_or (listed items parts) (place_in parts i offset) e)
+read_part items parts i offset part h lt same within =
+    let place = get_or part offset 0 in
+    let known = index_below items parts h in
+    let at : place ≡ get_or (flat parts) (place_in parts i offset) place = read_flat parts i offset part 0 lt same within in
+    let among : place_in parts i offset < length (flat parts) = omega (arith, ends_within parts i lt, within, ap length same) in (
+      subst (λ (n : ℕ). n < length items) (sym at) (all_at (λ n. n < length items) (flat parts) (place_in parts i offset) place among known),
+      λ e here. here ∙ sym (picked_at items (flat parts) (place_in parts i offset) place e known among at),
+    )
+
 pub count_listed : {T : Type 0} (items : List (Entry T)) (parts : List (List ℕ)) → IsIndex items parts → length (listed items parts) ≡ length (flat parts)
 count_listed items parts h = count_picked items (flat parts) (index_below items parts h)
 
@@ -120,7 +133,3 @@ sorted_listed {T} items moved parts h same sorted =
 -- items at all places in their order are listed as they are
 pub listed_all : {X : Type 0} (items : List X) (parts : List (List ℕ)) (count : ℕ) → flat parts ≡ range_with_len 0 count → count ≡ length items → listed items parts ≡ items
 listed_all items parts count places all = ap (picked items) (places ∙ ap (range_with_len 0) all) ∙ picked_all items
-
--- as many places as items
-pub count_index : {T : Type 0} (items : List (Entry T)) (parts : List (List ℕ)) → IsIndex items parts → length (flat parts) ≡ length items
-count_index items parts h = length_permutation (range_with_len 0 (length items)) (flat parts) h.all ∙ length-range_with_len 0 (length items)

@@ -1,5 +1,5 @@
 -- Places of items, in blocks: what contracts see of the blocks, and what they mean for the items.
-use Rattle.std.specs.Prelude.{◌≡◌, ℕ, zero, suc, ◌+◌, ◌<◌, ◌≤◌, List, [], ◌∷◌, ◌++◌, length, map, slice_get, slice_index_or, IsPermutation}
+use Rattle.std.specs.Prelude.{◌≡◌, ℕ, zero, suc, ◌+◌, ◌^◌, ◌<◌, ◌≤◌, List, [], ◌∷◌, ◌++◌, length, map, slice_get, slice_index_or, IsPermutation}
 use Rattle.std.specs.List.{AllByRecursion, filter_map, range_with_len}
 use Rattle.ov_lists.specs.Entries.{Entry, IsOrdered}
 
@@ -77,19 +77,10 @@ pub record IsIndex {T : Type 0} (items : List (Entry T)) (parts : List (List ℕ
   pub all : IsPermutation (range_with_len 0 (length items)) (flat parts)
   pub ordered : IsOrdered (listed items parts)
 
--- ---- the keys and versions apart from the items
+-- ---- the room
 
--- an entry without its item
-abbrev pub head_of : {T : Type 0} → Entry T → Entry (Unit {0})
-head_of e = record { key = e.key; version = e.version; item = tt }
-
--- the keys and versions of items
-abbrev pub heads_of : {T : Type 0} → List (Entry T) → List (Entry (Unit {0}))
-heads_of items = map head_of items
-
--- As many keys and versions as items, and room for so many more of both, of which each takes at most one block.
-pub record HasRoom (room len capacity heads_len heads_capacity spare : ℕ) : Type 0 where
+-- Room for so many more items, of which each takes at most one block; they and those there are fewer than 2^32.
+pub record HasRoom (room len capacity spare : ℕ) : Type 0 where
+  pub few : len + room < 2 ^ 32
   pub items : len + room ≤ capacity
-  pub same : heads_len ≡ len
-  pub heads : heads_len + room ≤ heads_capacity
   pub blocks : room ≤ spare

@@ -1,5 +1,5 @@
 //! A block of places.
-ghost use Rattle.std.specs.Prelude.{◌≡◌, ◌<◌, ◌≤◌, ◌+◌, ◌^◌, length, insert, take, drop, [], ◌∷◌, slice_index_or};
+ghost use Rattle.std.specs.Prelude.{◌≡◌, ◌<◌, ◌≤◌, ◌+◌, ◌^◌, length, insert, take, drop, [], ◌∷◌};
 ghost use Rattle.std.specs.List.{range_with_len};
 
 use arrayvec::ArrayVec;
@@ -14,7 +14,7 @@ pub const HALF_ROOM: usize = 16;
 /// At most 32 places, in an order. Contracts see their list.
 #[derive(Drop)]
 pub struct Block {
-    places: ArrayVec<usize, 32>,
+    places: ArrayVec<u32, 32>,
 }
 
 impl Model for Block {
@@ -29,7 +29,7 @@ impl Model for Block {
 
 impl Block {
     /// The block of one place.
-    pub fn of(place: usize) -> Block
+    pub fn of(place: u32) -> Block
         ensures { result ≡ place ∷ [] }
     {
         let mut places = ArrayVec::new();
@@ -38,9 +38,9 @@ impl Block {
     }
 
     /// The block of so many places from one on. Condition: they are at most 32.
-    pub fn run(start: usize, size: usize) -> Block
+    pub fn run(start: u32, size: u32) -> Block
         requires short { size ≤ 32 }
-        requires end { start + size < 2 ^ 64 }
+        requires end { start + size < 2 ^ 32 }
         ensures { result ≡ range_with_len start size }
     {
         let mut places = ArrayVec::new();
@@ -50,24 +50,16 @@ impl Block {
         Block { places }
     }
 
-    /// How many places it has.
-    pub fn len(&self) -> usize
-        ensures value { result ≡ length self.now }
-        ensures fits { result ≤ 32 }
+    /// Its places.
+    pub fn places(&self) -> &[u32]
+        ensures value { result.now ≡ self.now }
+        ensures fits { length result.now ≤ 32 }
     {
-        self.places.len()
-    }
-
-    /// The place at an offset. Condition: there is one.
-    pub fn place(&self, offset: usize) -> usize
-        requires { offset < length self.now }
-        ensures { result ≡ slice_index_or self.now offset result }
-    {
-        self.places.as_slice()[offset]
+        self.places.as_slice()
     }
 
     /// Puts a place at an offset, up to the end. Condition: the block has room.
-    pub fn insert(&mut self, offset: usize, place: usize)
+    pub fn insert(&mut self, offset: usize, place: u32)
         requires within { offset ≤ length self.old }
         requires room { length self.old < 32 }
         ensures { self.new ≡ insert self.old offset place }

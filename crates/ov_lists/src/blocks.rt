@@ -67,6 +67,16 @@ impl Blocks {
         self.order.len()
     }
 
+    /// The places of a block, 1 to 32. Condition: there is that block.
+    pub fn places(&self, block: usize) -> &[u32]
+        requires { block < length self.now.parts }
+        ensures value { result.now ≡ part_at self.now.parts block }
+        ensures some { 0 < length result.now }
+        ensures fits { length result.now ≤ 32 }
+    {
+        self.blocks[self.order[block]].places()
+    }
+
     /// How many places a block has. Condition: there is that block.
     pub fn len_of(&self, block: usize) -> usize
         requires { block < length self.now.parts }
@@ -74,17 +84,17 @@ impl Blocks {
         ensures some { 0 < result }
         ensures fits { result ≤ 32 }
     {
-        self.blocks[self.order[block]].len()
+        self.places(block).len()
     }
 
     /// The place at a position. Condition: there is one.
-    pub fn place(&self, at: Position) -> usize
+    pub fn place(&self, at: Position) -> u32
         requires block { at.block < length self.now.parts }
         requires offset { at.offset < length (part_at self.now.parts at.block) }
         ensures value { result ≡ slice_index_or (flat self.now.parts) (place_in self.now.parts at.block at.offset) result }
         ensures within { place_in self.now.parts at.block at.offset < length (flat self.now.parts) }
     {
-        self.blocks[self.order[at.block]].place(at.offset)
+        self.places(at.block)[at.offset]
     }
 
     /// The same position, which is the front of the next block where it is behind the last place of one.
@@ -129,7 +139,7 @@ impl Blocks {
     }
 
     /// Puts a place at a position, up to the end of the block. Condition: there is that block, and it has room.
-    pub fn put(&mut self, at: Position, place: usize)
+    pub fn put(&mut self, at: Position, place: u32)
         requires block { at.block < length self.old.parts }
         requires offset { at.offset ≤ length (part_at self.old.parts at.block) }
         requires room { length (part_at self.old.parts at.block) < 32 }

@@ -7,7 +7,7 @@ use crate::blocks::{Blocks, Position};
 
 /// Puts a place at a position. A full block is split, but for a place behind its last, which goes to the front of the next
 /// block or into one of its own. Condition: there is room for one more block.
-pub fn insert_place(blocks: &mut Blocks, at: Position, place: usize)
+pub fn insert_place(blocks: &mut Blocks, at: Position, place: u32)
     requires within { IsWithin blocks.old.parts at.block at.offset }
     requires room { 0 < blocks.old.spare }
     ensures places { flat blocks.new.parts ≡ insert (flat blocks.old.parts) (place_in blocks.old.parts at.block at.offset) place }
@@ -28,7 +28,7 @@ pub fn insert_place(blocks: &mut Blocks, at: Position, place: usize)
 }
 
 /// Puts a place behind a block: to the front of the next, where that has room, and else into one of its own.
-fn insert_behind(blocks: &mut Blocks, block: usize, place: usize)
+fn insert_behind(blocks: &mut Blocks, block: usize, place: u32)
     requires there { block < length blocks.old.parts }
     requires room { 0 < blocks.old.spare }
     ensures places { flat blocks.new.parts ≡ insert (flat blocks.old.parts) (place_in blocks.old.parts block (length (part_at blocks.old.parts block))) place }
@@ -50,7 +50,7 @@ fn insert_behind(blocks: &mut Blocks, block: usize, place: usize)
 }
 
 /// Splits a full block, and puts a place into the half where it belongs.
-fn insert_inside(blocks: &mut Blocks, at: Position, place: usize)
+fn insert_inside(blocks: &mut Blocks, at: Position, place: u32)
     requires there { at.block < length blocks.old.parts }
     requires within { at.offset ≤ 32 }
     requires full { length (part_at blocks.old.parts at.block) ≡ 32 }

@@ -2,9 +2,8 @@
 //! between two numbers and the next key are asked, and which lets go of what is below a number.
 //!
 //! The promise to the layers above: contracts see the entries in the order of key and then version, all of them after each
-//! call, and how much room is reserved. Inside the items stand in the order of their insertion, their keys and versions once
-//! more apart from them, since a search reads no more, and their places in blocks of at most 32, so that an insertion moves at
-//! most one block and the numbers of the blocks behind it.
+//! call, and how much room is reserved. Inside the items stand in the order of their insertion, and their places in blocks of at
+//! most 32, so that an insertion moves at most one block and the numbers of the blocks behind it.
 //!
 //! Start with `specs/Entries.antt`; the lemmas on its definitions, for the crates above, are exported by `proofs/Lib.antt`
 //! (`Entries` on insertion and the newest, `Sorting` on windows, `Laws` on what stays and the next key). The blocks are in

@@ -16,7 +16,7 @@ pub fn entry_at<'a, T>(items: &'a [Versioned<T>], blocks: &Blocks, at: Position)
     ensures value { result.now ≡ slice_index_or (listed items.now blocks.now.parts) (place_in blocks.now.parts at.block at.offset) result.now }
     ensures within { place_in blocks.now.parts at.block at.offset < length (listed items.now blocks.now.parts) }
 {
-    &items[blocks.place(at)]
+    &items[blocks.place(at) as usize]
 }
 
 /// The position of a key and number: the entries before it stand before them, and no others. It is behind an entry of its
@@ -131,15 +131,12 @@ fn offset_of<T>(
     ensures some { 0 < result }
     ensures within { result ≤ length (part_at blocks.now.parts block) }
 {
+    let places = blocks.places(block);
     let mut low = 1;
-    let mut high = blocks.len_of(block);
+    let mut high = places.len();
     while low < high {
         let middle = low + (high - low) / 2;
-        let there = Position {
-            block,
-            offset: middle,
-        };
-        if entry_at(items, blocks, there).is_before(key, number) {
+        if items[places[middle] as usize].is_before(key, number) {
             low = middle + 1;
         } else {
             high = middle;

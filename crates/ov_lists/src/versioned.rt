@@ -1,7 +1,6 @@
 //! One entry of version lists.
 ghost use Rattle.std.specs.Prelude.{◌≡◌};
 ghost use Rattle.ov_lists.specs.Entries.{is_before, is_at, is_below, is_inside};
-ghost use Rattle.ov_lists.specs.Parts.{head_of};
 
 use ov_base::{Key, Version};
 use std::cmp::Ordering;
@@ -9,9 +8,6 @@ use std::marker::Model;
 
 /// The number that is above all versions.
 pub const PAST_ALL: u64 = 1 << 63;
-
-/// A key and a version, without an item.
-pub type Head = Versioned<()>;
 
 /// A key, a version and the item there. Contracts see the bytes of the key and the number of the version.
 #[derive(Drop)]
@@ -61,16 +57,5 @@ impl<T> Versioned<T> {
     {
         let number = self.version.number();
         from <= number && number < below
-    }
-
-    /// Its key and version.
-    pub fn head(&self) -> Head
-        ensures { result ≡ head_of self.now }
-    {
-        Versioned {
-            key: self.key,
-            version: self.version,
-            item: (),
-        }
     }
 }

@@ -1,15 +1,15 @@
 //! The entries of a window.
-ghost use Rattle.std.specs.Prelude.{◌≡◌, ◌<◌, ◌+◌, ◌++◌, ◌∷◌, [], length, map, IfOk, OnOk, OnErr};
+ghost use Rattle.std.specs.Prelude.{◌≡◌, ◌<◌, ◌+◌, length, map, IfOk};
 ghost use Rattle.std.specs.Cmp.Lexicographic.{slice_cmp};
 ghost use Rattle.std.specs.List.{filter};
 ghost use Rattle.std.specs.Ordering.{nat_cmp, ordering_then};
 ghost use Rattle.ov_lists.specs.Entries.{IsOrdered, is_inside, by_version, shown};
-ghost use Rattle.ov_lists.specs.Parts.{part_at, place_in, listed, head_of, heads_of, IsIndex, IsAt};
+ghost use Rattle.ov_lists.specs.Parts.{part_at, place_in, listed, IsIndex, IsAt};
 ghost use Rattle.ov_lists.specs.Places.{AreOutside, Passes};
 
 use crate::blocks::{Blocks, Position};
 use crate::search::{entry_at, position_near};
-use crate::versioned::{Head, PAST_ALL, Versioned};
+use crate::versioned::{PAST_ALL, Versioned};
 use ov_base::{Key, Memory, Version};
 use std::alloc::Global;
 use std::cmp::Ordering;
@@ -17,25 +17,25 @@ use std::cmp::Ordering;
 /// The entries inside a window, in the order of the list: from key to key, past what lies outside.
 pub fn inside<'a, T>(
     items: &'a [Versioned<T>],
-    heads: &[Head],
     blocks: &Blocks,
     alloc: Global,
     from: u64,
     below: u64,
 ) -> Result<Vec<(Version, Key, &'a T)>, Memory>
-    requires index { IsIndex items.now blocks.now.parts }
-    requires heads { heads.now ≡ heads_of items.now }
+    requires { IsIndex items.now blocks.now.parts }
     ensures { IfOk result (λ v. map shown v.items ≡ filter (is_inside from below) (listed items.now blocks.now.parts)) }
 {
     let mut found = Vec::new(alloc);
     let mut at = blocks.first();
     while at.block < blocks.count() {
-        let head = entry_at(heads, blocks, at);
-        if head.is_inside(from, below) {
-            push_found(&mut found, head, entry_at(items, blocks, at))?;
+        let entry = entry_at(items, blocks, at);
+        if entry.is_inside(from, below) {
+            if found.push((entry.version, entry.key, &entry.item)).is_err() {
+                return Err(Memory);
+            }
             at = blocks.after(at);
         } else {
-            at = next_position(heads, blocks, at, from, below);
+            at = next_position(items, blocks, at, from, below);
         }
     }
     Ok(found)
@@ -66,22 +66,6 @@ fn next_position<T>(
         blocks.forward(position_near(items, blocks, at, &entry.key, from))
     } else {
         blocks.forward(position_near(items, blocks, at, &entry.key, PAST_ALL))
-    }
-}
-
-/// Adds an entry of a key and version at the end. On an error nothing has changed.
-fn push_found<'a, T>(
-    found: &mut Vec<(Version, Key, &'a T)>,
-    head: &Head,
-    entry: &'a Versioned<T>,
-) -> Result<(), Memory>
-    requires { head.now ≡ head_of entry.now }
-    ensures ok { OnOk result (map shown found.new.items ≡ map shown found.old.items ++ entry.now ∷ []) }
-    ensures err { OnErr result (found.new.items ≡ found.old.items) }
-{
-    match found.push((head.version, head.key, &entry.item)) {
-        Ok(()) => Ok(()),
-        Err(_) => Err(Memory),
     }
 }
 

@@ -2,7 +2,6 @@ use Rattle.std.proofs.Common.{ℕ, List, length, arith, sym, ap, subst, ◌∙�
 use Rattle.std.specs.List.{range_with_len}
 use Rattle.std.proofs.lemmas.List.Sorted.{IsPermutation-refl}
 use Rattle.ov_lists.specs.Entries.{Entry, Contents, IsOrdered, is_kept, thinned}
-use Rattle.ov_lists.specs.Parts.{heads_of}
 use Rattle.ov_lists.proofs.Entries.{ordered_filter}
 use Rattle.ov_lists.proofs.Picked.{sorted_listed, listed_all, count_listed}
 use Rattle.ov_lists.proofs.lists.VersionLists.thin.Goals as goal
@@ -28,15 +27,11 @@ invariant_of-self g c =
             (IsPermutation-refl (range_with_len 0 (length c.keep_items-gone.new.items.items)));
         ordered = subst (λ (t : List (Entry _)). IsOrdered t) (sym (all ∙ c.keep_items-gone.ensures.items)) ordered;
       },
-      (
-        record {
-          items = omega (arith, c.self.invariant.1.0.items, c.sort_items.ensures.len, c.sort_items.ensures.capacity, c.keep_items-gone.ensures.len, c.keep_items-gone.ensures.capacity);
-          same = omega (arith, c.copy_heads.ensures.len, c.as_slice-2.ensures.len);
-          heads = omega (arith, c.self.invariant.1.0.same, c.self.invariant.1.0.heads, c.sort_items.ensures.len, c.keep_items-gone.ensures.len, c.copy_heads.ensures.len, c.copy_heads.ensures.capacity, c.as_slice-2.ensures.len);
-          blocks = omega (arith, c.self.invariant.1.0.blocks, c.refill.ensures.spare);
-        },
-        c.copy_heads.ensures.heads ∙ ap (λ (t : List (Entry _)). heads_of t) c.as_slice-2.ensures.value,
-      ),
+      record {
+        few = omega (arith, c.self.invariant.1.few, c.sort_items.ensures.len, c.keep_items-gone.ensures.len);
+        items = omega (arith, c.self.invariant.1.items, c.sort_items.ensures.len, c.sort_items.ensures.capacity, c.keep_items-gone.ensures.len, c.keep_items-gone.ensures.capacity);
+        blocks = omega (arith, c.self.invariant.1.blocks, c.refill.ensures.spare);
+      },
     )
 
 pub returns-clause-entries : goal.returns-clause-entries
