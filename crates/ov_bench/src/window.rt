@@ -43,7 +43,7 @@ fn planned(
     if topology.partitions() > 0 && topology.centres() > 0 {
         harvest.add(0, 0, items).ok()?;
     }
-    let plan = Plan::of(rt.alloc(), harvest, base).ok()?;
+    let plan = Plan::build(rt.alloc(), &harvest, base).ok()?;
     let values = eval_all(rt.alloc(), &plan).ok()?;
     Some(values.len())
 }

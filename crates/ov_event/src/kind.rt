@@ -8,7 +8,7 @@ ghost use Rattle.ov_event.specs.Makers.{of_node, of_settler};
 ghost use Rattle.ov_gossip.specs.Lemmas.{vector_eq-cases};
 
 use crate::start::Start;
-use ov_base::{Memory, Plain, Sequence, Version};
+use ov_base::{Memory, Plain, Sequence, Shared, Version};
 use ov_functor::{Item, Reply, Valued};
 use ov_gossip::Vector;
 use ov_topology::{Mode, Place};
@@ -26,7 +26,7 @@ pub enum Kind {
     Stored {
         place: Place,
         version: Version,
-        items: Sequence<Item>,
+        items: Shared<Item>,
     },
     /// A gateway took the acknowledgement of a node.
     Acked {
@@ -57,7 +57,7 @@ pub enum Kind {
         place: Place,
         settler: u32,
         round: u64,
-        items: Sequence<Item>,
+        items: Shared<Item>,
     },
     /// A settler took the answer of a node.
     Taken {
@@ -65,7 +65,7 @@ pub enum Kind {
         round: u64,
         centre: u32,
         part: u32,
-        items: Sequence<Item>,
+        items: Shared<Item>,
     },
     /// A settler settled its open round with these values.
     Settled {

@@ -8,7 +8,7 @@ ghost use Rattle.ov_event.specs.Makers.{from_node, from_settler};
 ghost use Rattle.ov_gossip.specs.Lemmas.{vector_eq-cases};
 
 use crate::start::Start;
-use ov_base::{Memory, Plain, Sequence, Version};
+use ov_base::{Memory, Plain, Shared, Version};
 use ov_functor::{Item, Reply};
 use ov_gossip::Vector;
 use ov_topology::Mode;
@@ -20,7 +20,7 @@ pub enum Letter {
     Write {
         version: Version,
         part: u32,
-        items: Sequence<Item>,
+        items: Shared<Item>,
     },
     /// A command wants its reply.
     Want {
@@ -54,7 +54,7 @@ pub enum Letter {
         round: u64,
         centre: u32,
         part: u32,
-        items: Sequence<Item>,
+        items: Shared<Item>,
     },
     /// The reply to a command.
     Result {

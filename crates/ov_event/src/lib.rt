@@ -26,4 +26,4 @@ pub use letters::{addressed, letter_count, letter_of};
 pub use ov_functor::Valued;
 pub use sort::is_of;
 pub use start::Start;
-pub use writes::{touches, write_count};
+pub use writes::{touched_parts, touches, write_count};

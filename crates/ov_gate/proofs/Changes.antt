@@ -22,13 +22,13 @@ use Rattle.ov_history.specs.Draws.{Drawn, last}
 use Rattle.ov_history.specs.Placement.{acked}
 use Rattle.ov_history.specs.Marks.{lacks_quorum, lacks_copies, replied_to}
 use Rattle.ov_history.specs.Sessions.{events_of}
-use Rattle.ov_gate.specs.Small.{with_number}
+use Rattle.ov_base.specs.Small.{with_number}
 use Rattle.ov_gate.specs.Tracked.{node_number, is_acked, recounted, with_ack, with_reply, IsNew}
 use Rattle.ov_gate.specs.Tracker.{at_version}
 use Rattle.ov_gate.specs.Gate.{Tracks}
-use Rattle.ov_gate.specs.declared.small.SmallSet.{SmallSet}
+use Rattle.ov_base.specs.declared.small.SmallSet.{SmallSet}
 use Rattle.ov_gate.specs.declared.tracked.Tracked.{Tracked}
-use Rattle.ov_gate.proofs.Sets.{empty_has, with_has, with_others}
+use Rattle.ov_base.proofs.SmallSets.{empty_has, with_has, with_others}
 use Rattle.ov_gate.proofs.Kept.{quorum_found, copies_found, quorum_same, copies_same, quorum_stays, copies_stay, Leaves}
 
 -- the gateway's entry of this kind

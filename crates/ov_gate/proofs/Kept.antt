@@ -13,11 +13,11 @@ use Rattle.ov_history.specs.Draws.{Drawn, draw_of, last}
 use Rattle.ov_history.specs.Placement.{acked, ackers}
 use Rattle.ov_history.specs.Marks.{lacks_quorum, lacks_copies, replied_to, lowered, lowest}
 use Rattle.ov_history.specs.Sessions.{events_of}
-use Rattle.ov_gate.specs.Small.{has}
+use Rattle.ov_base.specs.Small.{has}
 use Rattle.ov_gate.specs.Tracked.{is_acked, few_acks, some_copy_lacks, lacks_quorum_of, lacks_copies_of, lacks}
 use Rattle.ov_gate.specs.Tracker.{Rises, least_held}
 use Rattle.ov_gate.specs.Gate.{listed, draws, Tracks, TracksAll}
-use Rattle.ov_gate.specs.declared.small.SmallSet.{SmallSet}
+use Rattle.ov_base.specs.declared.small.SmallSet.{SmallSet}
 use Rattle.ov_gate.specs.declared.tracked.Mark.{Mark}
 use Rattle.ov_gate.specs.declared.tracked.Tracked.{Tracked}
 use Rattle.ov_history.proofs.Counting.{any_same, all_same, weight_same, none_less, all_more, weight_more}

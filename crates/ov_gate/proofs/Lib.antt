@@ -1,4 +1,3 @@
-pub mod Sets
 pub mod Rising
 pub mod Kept
 pub mod Changes

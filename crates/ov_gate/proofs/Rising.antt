@@ -7,7 +7,7 @@ use Rattle.std.proofs.lemmas.Bool.{cases_Bool, ltb-true, ltb-false, lt-ltb, eq-e
 use Rattle.std.proofs.lemmas.Bool.Decides.{eqb_tells}
 use Rattle.std.proofs.lemmas.Grind.{common_steps}
 use Rattle.ov_topology.specs.Shape.{Shape}
-use Rattle.ov_gate.specs.Small.{with_number}
+use Rattle.ov_base.specs.Small.{with_number}
 use Rattle.ov_gate.specs.Tracked.{node_number, recounted, with_ack, with_reply, lacks}
 use Rattle.ov_gate.specs.Tracker.{Rises, first_held, least_held, at_version, earlier, IsPlace}
 use Rattle.ov_gate.specs.declared.tracked.Mark.{Mark}

@@ -19,7 +19,7 @@ use Rattle.ov_history.specs.Sessions.{events_of}
 use Rattle.ov_history.specs.Gives.{is_own}
 use Rattle.ov_history.specs.May.{Setting}
 use Rattle.ov_history.specs.Cores.{Runs}
-use Rattle.ov_gate.specs.Small.{has}
+use Rattle.ov_base.specs.Small.{has}
 use Rattle.ov_gate.specs.Tracked.{is_acked}
 use Rattle.ov_gate.specs.Tracker.{Rises}
 use Rattle.ov_gate.specs.declared.tracked.Tracked.{Tracked}

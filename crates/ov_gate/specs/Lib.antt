@@ -1,4 +1,3 @@
-pub mod Small
 pub mod Tracked
 pub mod Tracker
 pub mod Gate

@@ -4,8 +4,8 @@ use Rattle.ov_functor.specs.declared.part.Part.{Part}
 use Rattle.ov_topology.specs.Shape.{Shape}
 use Rattle.ov_event.specs.Letters.{touches}
 use Rattle.ov_history.specs.Counts.{any_below, all_below, weight}
-use Rattle.ov_gate.specs.Small.{empty_set, has, with_number}
-use Rattle.ov_gate.specs.declared.small.SmallSet.{SmallSet}
+use Rattle.ov_base.specs.Small.{empty_set, has, with_number}
+use Rattle.ov_base.specs.declared.small.SmallSet.{SmallSet}
 use Rattle.ov_gate.specs.declared.tracked.Tracked.{Tracked}
 use Rattle.ov_gate.specs.declared.tracked.Mark.{Mark}
 use Rattle.ov_gate.specs.declared.tracked.Mark.TheVariants.{Low, Full, Done}

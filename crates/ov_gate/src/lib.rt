@@ -8,7 +8,6 @@
 
 mod gate;
 mod laws;
-mod small;
 #[cfg(test)]
 mod tests;
 mod tracked;

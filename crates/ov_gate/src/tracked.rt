@@ -4,12 +4,11 @@ ghost use Rattle.ov_functor.specs.declared.part.Part as parts;
 ghost use Rattle.ov_topology.specs.Shape.{IsShape};
 ghost use Rattle.ov_event.specs.Letters.{touches};
 ghost use Rattle.ov_history.specs.Counts.{any_below, all_below, weight};
-ghost use Rattle.ov_gate.specs.Small.{has, empty_set};
+ghost use Rattle.ov_base.specs.Small.{has, empty_set};
 ghost use Rattle.ov_gate.specs.Tracked.{is_acked, few_acks, some_copy_lacks, lacks_quorum_of, lacks_copies_of, recounted, with_ack, with_reply, lacks, IsNew};
 
-use crate::small::SmallSet;
-use ov_base::Version;
-use ov_event::touches;
+use ov_base::{SmallSet, Version};
+use ov_event::touched_parts;
 use ov_functor::Part;
 use ov_topology::Topology;
 
@@ -50,7 +49,7 @@ impl Tracked {
             version,
             session,
             seq,
-            touched: touched(topology, parts),
+            touched: touched_parts(topology, parts),
             acked: SmallSet::empty(),
             lacks_quorum: true,
             lacks_copies: true,
@@ -145,17 +144,4 @@ impl Tracked {
         }
         all
     }
-}
-
-/// The partitions that the parts of a transaction touch.
-fn touched(topology: &Topology, parts: &[Part]) -> SmallSet
-    ensures { (part : ℕ) → part < topology.now.partitions → has result part ≡ touches topology.now parts.now part }
-{
-    let mut touched = SmallSet::empty();
-    for part in 0..topology.partitions() {
-        if touches(topology, parts, part) {
-            touched.add(part);
-        }
-    }
-    touched
 }

@@ -8,7 +8,7 @@ ghost use Rattle.ov_journal.specs.Read as spec;
 ghost use Rattle.ov_journal.specs.Read.{keys_of, marks_of, valued_of, vector_of};
 
 use crate::word::parse_mark;
-use ov_base::{Key, Memory, Sequence, Value, Version, repeats};
+use ov_base::{Key, Memory, Sequence, Shared, Value, Version, repeats};
 use ov_event::{Valued, items_in_groups};
 use ov_functor::Item;
 use ov_gossip::{Marks, Vector};
@@ -125,12 +125,12 @@ fn parse_valued(words: &[&[u8]]) -> Option<Valued>
 pub(crate) fn parse_items(
     alloc: Global,
     groups: &[&[&[u8]]],
-) -> Result<Option<Sequence<Item>>, Memory>
+) -> Result<Option<Shared<Item>>, Memory>
     ensures { IfOk result (λ items. items ≡ all_of item_of (groups_in groups.now)) }
 {
     match items_in_groups(alloc, groups)? {
         None => Ok(None),
-        Some(items) => Ok(Some(Sequence::from_vec(items))),
+        Some(items) => Ok(Some(Shared::of(items)?)),
     }
 }
 

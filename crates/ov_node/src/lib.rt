@@ -6,6 +6,7 @@
 //! Start with `specs/Node.antt`: what contracts see of a core, and which histories it stands for.
 #![tactic(auto)]
 
+mod held;
 mod laws;
 mod node;
 #[cfg(test)]

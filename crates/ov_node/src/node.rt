@@ -1,5 +1,5 @@
 //! The core of a node.
-ghost use Rattle.std.specs.Prelude.{◌≡◌, ◌↔◌, ◌+◌, ◌<◌, ◌≤◌, [], length, map, true, false, Some, None, IfOk, OnOk, OnErr, IsTrue};
+ghost use Rattle.std.specs.Prelude.{◌≡◌, ◌↔◌, ◌+◌, ◌<◌, ◌≤◌, List, [], length, map, true, false, Some, None, IfOk, IfSome, OnOk, OnErr, IsTrue};
 ghost use Rattle.std.specs.Option.{option_map};
 ghost use Rattle.std.specs.List.{filter};
 ghost use Rattle.ov_topology.specs.Shape.{IsShape};
@@ -13,12 +13,15 @@ ghost use Rattle.ov_history.specs.Letters.{letter as letter_at};
 ghost use Rattle.ov_history.specs.May.{Setting, May};
 ghost use Rattle.ov_history.specs.Gives.{Take, Stop, act_of};
 ghost use Rattle.ov_history.specs.Cores.{letter_for, Steps};
+ghost use Rattle.ov_functor.specs.declared.item.Item as items;
+ghost use Rattle.ov_node.specs.Answer.{IsLast};
 ghost use Rattle.ov_node.specs.Node.{NodeState, IsNode, Asks, item_of, items_in, stores, answers};
 ghost use Rattle.ov_functor.specs.Unions.{is_inside, added, all_added};
 
-use ov_base::{Key, Memory, Plain, Sequence, Version, same};
+use crate::held::{Held, Incoming, all_incoming};
+use ov_base::{Key, Memory, Plain, Shared, Version, same};
 use ov_event::{Entry, Kind, Letter};
-use ov_functor::{Functor, Item};
+use ov_functor::Item;
 use ov_lists::VersionLists;
 use ov_topology::{Actor, Mode, Place};
 use std::alloc::Global;
@@ -27,18 +30,32 @@ use std::marker::Model;
 /// A storage node as it runs (docs/STORE.md, Nodes): the items that it holds, and whether it has stopped.
 #[derive(Drop)]
 pub struct NodeCore {
+    alloc: Global,
     centre: u32,
     part: u32,
-    items: VersionLists<Functor>,
+    items: VersionLists<Held>,
+    /// The answer that was given last, while nothing was stored since: other settlers often ask for the same window.
+    last: Option<Answer>,
     stopped: bool,
 }
 
+/// All that a node holds in a window.
+#[derive(Drop)]
+pub(crate) struct Answer {
+    pub from: u64,
+    pub below: u64,
+    pub items: Shared<Item>,
+}
+
 impl Model for NodeCore {
+    ghost use Rattle.ov_node.specs.Answer.{IsLast};
     ghost use Rattle.ov_node.specs.Node.{NodeState, items_in};
 
     ghost Value = { NodeState };
 
     ghost view = { λ node. record { centre = node.centre; part = node.part; items = items_in node.items.entries; stopped = node.stopped } };
+
+    ghost invariant = { λ node. IsLast (items_in node.items.entries) node.last };
 }
 
 impl NodeCore {
@@ -48,16 +65,18 @@ impl NodeCore {
         ensures stands { (t : Setting) → IsShape t.topology → is_in t.topology (Node centre part) ≡ true → IsNode t [] (Node centre part) result }
     {
         NodeCore {
+            alloc,
             centre,
             part,
             items: VersionLists::new(alloc),
+            last: None,
             stopped: false,
         }
     }
 
     /// Stores the items of a `Write` letter, those that it does not hold yet, and returns its `Stored` entry. None exactly where
     /// no such entry may follow: the node has stopped, or the letter is not a `Write` to it. After None, and on an error, nothing has
-    /// changed. The letter stands at the place in the history. Copies the items for the entry; [`NodeCore::store_items`] does not.
+    /// changed. The letter stands at the place in the history. The entry and the node share the letter's items.
     pub fn store(&mut self, place: Place, letter: &Letter) -> Result<Option<Entry>, Memory>
         ensures steps { IfOk result (λ answer. (t : Setting) (h : History) (actor : actors.Actor) → IsNode t h actor self.old → letter_at t.topology h place ≡ Some letter.now → Steps IsNode stores t h actor (Take place) answer self.new) }
         ensures none { IfOk result (λ answer. answer ≡ None → self.new ≡ self.old) }
@@ -74,14 +93,13 @@ impl NodeCore {
         self.store_items(place, *version, *part, items.copy()?)
     }
 
-    /// Stores the items of the `Write` letter that stands at the place in the history, as [`NodeCore::store`] does, but the items are
-    /// moved into the entry.
-    pub fn store_items(
+    /// The same with what the letter says.
+    fn store_items(
         &mut self,
         place: Place,
         version: Version,
         part: u32,
-        items: Sequence<Item>,
+        items: Shared<Item>,
     ) -> Result<Option<Entry>, Memory>
         ensures steps { IfOk result (λ answer. (t : Setting) (h : History) (actor : actors.Actor) → IsNode t h actor self.old → letter_at t.topology h place ≡ Some (Write version part items) → Steps IsNode stores t h actor (Take place) answer self.new) }
         ensures none { IfOk result (λ answer. answer ≡ None → self.new ≡ self.old) }
@@ -99,8 +117,9 @@ impl NodeCore {
     }
 
     /// Answers an `Ask` letter: returns its `Answered` entry, which has all that it holds in the window asked for. None exactly where no
-    /// such entry may follow: the node has stopped, or the letter is not an `Ask` to it. Nothing changes. The letter stands at the
-    /// place in the history. Takes a search for each key, and time for what it gives.
+    /// such entry may follow: the node has stopped, or the letter is not an `Ask` to it. Nothing changes that contracts see. The letter
+    /// stands at the place in the history. Takes a search for each key, and time for what it gives; where the window is that of the last
+    /// answer and nothing was stored since, it gives the same items again.
     pub fn answer(&mut self, place: Place, letter: &Letter) -> Result<Option<Entry>, Memory>
         ensures steps { IfOk result (λ answer. (t : Setting) (h : History) (actor : actors.Actor) → IsNode t h actor self.old → letter_at t.topology h place ≡ Some letter.now → Steps IsNode answers t h actor (Take place) answer self.new) }
         ensures same { self.new ≡ self.old }
@@ -118,7 +137,7 @@ impl NodeCore {
         if self.stopped || !self.is_asked(*settler, *mode) {
             return Ok(None);
         }
-        let items = self.inside(*from, *below)?;
+        let items = self.window(*from, *below)?;
         Ok(Some(self.entry(Kind::Answered {
             place,
             settler: *settler,
@@ -168,7 +187,7 @@ impl NodeCore {
     }
 
     /// Whether a letter says to store these items at this version here.
-    fn may_store(&self, letter: Option<&Letter>, version: Version, items: &Sequence<Item>) -> bool
+    fn may_store(&self, letter: Option<&Letter>, version: Version, items: &Shared<Item>) -> bool
         ensures { IsTrue result ↔ (option_map (λ one. one.now) letter.entry ≡ Some (Write version self.now.part items.now)) }
     {
         match letter {
@@ -194,7 +213,7 @@ impl NodeCore {
         letter: Option<&Letter>,
         settler: u32,
         round: u64,
-        items: &Sequence<Item>,
+        items: &Shared<Item>,
     ) -> Result<bool, Memory>
         ensures { IfOk result (λ may. IsTrue may ↔ Asks self.now (option_map (λ one. one.now) letter.entry) settler round items.now) }
     {
@@ -241,30 +260,59 @@ impl NodeCore {
         }
     }
 
-    /// Holds these items too, those that it does not hold yet. On an error nothing has changed. allocates copies, and once for
-    /// all that come into the lists.
-    fn hold(&mut self, items: &Sequence<Item>) -> Result<(), Memory>
+    /// Holds these items too, those that it does not hold yet. On an error nothing has changed.
+    fn hold(&mut self, items: &Shared<Item>) -> Result<(), Memory>
         ensures ok { OnOk result (self.new ≡ record { centre = self.old.centre; part = self.old.part; items = all_added items.now self.old.items; stopped = self.old.stopped }) }
         ensures err { OnErr result (self.new ≡ self.old) }
     {
-        let copies = items.copy()?;
+        let all = all_incoming(self.alloc, items)?;
         self.items.reserve(items.len())?;
-        add_all(&mut self.items, copies.into_vec());
+        add_all(&mut self.items, all);
+        self.last = None;
         Ok(())
     }
 
+    /// The items that it holds in the window, by version and then key: those of the last answer, where that was for this window, and else
+    /// found anew and kept as the last answer. Nothing changes that contracts see. The only error is out of memory.
+    fn window(&mut self, from: u64, below: u64) -> Result<Shared<Item>, Memory>
+        ensures items { IfOk result (λ items. items ≡ filter (is_inside from below) self.old.items) }
+        ensures same { self.new ≡ self.old }
+    {
+        if let Some(items) = kept_answer(&self.last, from, below)? {
+            return Ok(items);
+        }
+        let items = self.inside(from, below)?;
+        self.last = Some(Answer {
+            from,
+            below,
+            items: items.copy()?,
+        });
+        Ok(items)
+    }
+
     /// The items that it holds in the window, by version and then key. The only error is out of memory.
-    fn inside(&self, from: u64, below: u64) -> Result<Sequence<Item>, Memory>
+    fn inside(&self, from: u64, below: u64) -> Result<Shared<Item>, Memory>
         ensures { IfOk result (λ items. items ≡ filter (is_inside from below) self.now.items) }
     {
         let found = self.items.window(from, below)?;
-        let items = copied(*found.allocator(), found.as_slice())?;
-        Ok(Sequence::from_vec(items))
+        Shared::of(copied(self.alloc, found.as_slice())?)
+    }
+}
+
+/// The items of the answer that is kept, where that is for this window. The only error is out of memory.
+fn kept_answer(last: &Option<Answer>, from: u64, below: u64) -> Result<Option<Shared<Item>>, Memory>
+    ensures { IfOk result (λ found. (held : List items.Item) → IsLast held last.now → IfSome found (λ kept. kept ≡ filter (is_inside from below) held)) }
+{
+    match last {
+        Some(answer) if answer.from == from && answer.below == below => {
+            Ok(Some(answer.items.copy()?))
+        }
+        _ => Ok(None),
     }
 }
 
 /// Adds the items to lists that have room for them, so that nothing is allocated.
-fn add_all(lists: &mut VersionLists<Functor>, items: Vec<Item>)
+fn add_all(lists: &mut VersionLists<Held>, items: Vec<Incoming>)
     requires { length items.items ≤ lists.old.spare }
     ensures { items_in lists.new.entries ≡ all_added items.items (items_in lists.old.entries) }
 {
@@ -274,25 +322,25 @@ fn add_all(lists: &mut VersionLists<Functor>, items: Vec<Item>)
 }
 
 /// Adds an item to lists that have room for it, so that nothing is allocated.
-fn add(lists: &mut VersionLists<Functor>, item: Item)
+fn add(lists: &mut VersionLists<Held>, item: Incoming)
     requires { 0 < lists.old.spare }
     ensures items { items_in lists.new.entries ≡ added item (items_in lists.old.entries) }
     ensures spare { lists.old.spare ≤ lists.new.spare + 1 }
 {
-    let _ = lists.insert(item.key, item.version, item.functor);
+    let _ = lists.insert(item.key, item.version, item.held);
 }
 
 /// Copies of the items that were found.
-fn copied(alloc: Global, found: &[(Version, Key, &Functor)]) -> Result<Vec<Item>, Memory>
+fn copied(alloc: Global, found: &[(Version, Key, &Held)]) -> Result<Vec<Item>, Memory>
     ensures { IfOk result (λ items. items.items ≡ map item_of (map shown found.now)) }
 {
-    let mut items = Vec::new(alloc);
+    let mut items = Vec::with_capacity(alloc, found.len())?;
     for one in found {
-        let (version, key, functor) = *one;
+        let (version, key, held) = *one;
         items.push(Item {
             version,
             key,
-            functor: functor.copy()?,
+            functor: held.functor().copy()?,
         })?;
     }
     Ok(items)

@@ -3,7 +3,7 @@ mod admitted;
 mod calls;
 
 use crate::NodeCore;
-use ov_base::{Amount, Key, Sequence, Version};
+use ov_base::{Amount, Key, Shared, Version};
 use ov_event::{Entry, Kind, Letter};
 use ov_functor::{Effect, Functor, Item};
 use ov_topology::{Actor, Mode, Place};
@@ -40,12 +40,12 @@ fn item(alloc: Global, row: &Row) -> Result<Item, Fail> {
     })
 }
 
-fn items(alloc: Global, rows: &[Row]) -> Result<Sequence<Item>, Fail> {
-    let mut items = Sequence::new(alloc);
+fn items(alloc: Global, rows: &[Row]) -> Result<Shared<Item>, Fail> {
+    let mut items = Vec::new(alloc);
     for row in rows {
         items.push(item(alloc, row)?)?;
     }
-    Ok(items)
+    Ok(Shared::of(items)?)
 }
 
 /// The letter that says to write these items at the version of this number.

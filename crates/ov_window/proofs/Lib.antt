@@ -1,4 +1,5 @@
 pub mod Marks
+pub mod Gathering
 pub mod Repeats
 pub mod Drafting
 pub mod Evaluating

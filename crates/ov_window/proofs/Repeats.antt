@@ -1,6 +1,8 @@
--- Sorted items without repeats are the union: both are by version and then key, and of each version and key both have the first.
-use Rattle.std.proofs.Common.{◌≡◌, ℕ, suc, ◌+◌, Bool, true, false, not, ◌&&◌, cond, ◌⊎◌, inl, inr, Option, Some, None, List, [], ◌∷◌, filter, refl, sym, ap, subst, ◌∙◌, arith, IsSortedBy}
+-- Sorted references to items, without repeats, show the union: both are by version and then key, and of each version and key both
+-- have the first.
+use Rattle.std.proofs.Common.{◌≡◌, ℕ, suc, ◌+◌, Bool, true, false, not, ◌&&◌, cond, ◌⊎◌, inl, inr, Option, Some, None, List, [], ◌∷◌, filter, map, refl, sym, ap, subst, ◌∙◌, arith, IsSortedBy}
 use Rattle.std.specs.Prelude.{if◌then◌else◌}
+use Rattle.std.specs.Borrow.{Bor}
 use Rattle.std.specs.Cmp.{IsStrictWeakOrder}
 use Rattle.std.specs.Cmp.Lexicographic.{slice_cmp}
 use Rattle.std.specs.List.{dedup, dedup_from}
@@ -71,6 +73,53 @@ behind_not_tied y new other ties before = by (tied y other) refl
         let here : precedes new y ≡ false = grind (arith, common_steps) in
         let there : precedes y other ≡ false = grind (arith, common_steps) in
         absurd (both_ways (precedes new other) (items_rank.chain new y other here there) before)
+
+-- ---- references
+
+-- the items that are referred to
+abbrev pub shown : List (Bor Item) → List Item
+shown refs = map (λ one. one.now) refs
+
+-- whether the item of one reference stands before that of another
+abbrev pub shown_first : Bor Item → Bor Item → Bool
+shown_first x y = precedes x.now y.now
+
+-- whether the items of two references are of one version and key
+abbrev pub shown_same : Bor Item → Bor Item → Bool
+shown_same x y = same_place x.now y.now
+
+-- the order of items is one by which references to them can be sorted
+pub shown_rank : IsStrictWeakOrder shown_first
+shown_rank = ranks_by place_total (λ (one : Bor Item). one.now)
+
+-- the items that pass a test are those of the references whose items pass it
+filter_shown : (p : Item → Bool) (refs : List (Bor Item)) → shown (filter (λ one. p one.now) refs) ≡ filter p (shown refs)
+filter_shown p [] = refl
+filter_shown p (first ∷ rest) = by (p first.now) (filter_shown p rest)
+  where
+    by : (b : Bool) → shown (filter (λ one. p one.now) rest) ≡ filter p (shown rest)
+        → shown (cond b (first ∷ filter (λ one. p one.now) rest) (filter (λ one. p one.now) rest)) ≡ cond b (first.now ∷ filter p (shown rest)) (filter p (shown rest))
+    by true is = ap (λ items. first.now ∷ items) is
+    by false is = is
+
+-- references without repeats are to the items without repeats
+kept_shown : (last : Bor Item) (refs : List (Bor Item)) → shown (dedup_from shown_same last refs) ≡ dedup_from same_place last.now (shown refs)
+kept_shown last [] = refl
+kept_shown last (first ∷ rest) = by (shown_same first last) (kept_shown last rest) (kept_shown first rest)
+  where
+    by : (b : Bool) → shown (dedup_from shown_same last rest) ≡ dedup_from same_place last.now (shown rest) → shown (dedup_from shown_same first rest) ≡ dedup_from same_place first.now (shown rest)
+        → shown (cond b (dedup_from shown_same last rest) (last ∷ dedup_from shown_same first rest)) ≡ cond b (dedup_from same_place last.now (shown rest)) (last.now ∷ dedup_from same_place first.now (shown rest))
+    by true skipped held = skipped
+    by false skipped held = ap (λ items. last.now ∷ items) held
+
+dedup_shown : (refs : List (Bor Item)) → shown (dedup shown_same refs) ≡ dedup same_place (shown refs)
+dedup_shown [] = refl
+dedup_shown (first ∷ rest) = kept_shown first rest
+
+-- references of which those to one version and key stay in their order show items of which those do
+stable_shown : (refs sorted : List (Bor Item)) → IsStableBy shown_first refs sorted → IsStableBy precedes (shown refs) (shown sorted)
+stable_shown refs sorted stable y =
+    sym (filter_shown (tied y) sorted) ∙ ap shown (stable (record { ref_ptr = (0, 0); now = y })) ∙ filter_shown (tied y) refs
 
 -- ---- the first of a version and key
 
@@ -194,16 +243,16 @@ abbrev Stays : List Item → Type 0
 Stays [] = Unit {0}
 Stays (item ∷ items) = ((other : Item) → Among other items → precedes other item ≡ false) × Stays items
 
-stays_from : (items : List Item) → IsSortedBy precedes items → Stays items
+stays_from : (items : List (Bor Item)) → IsSortedBy shown_first items → Stays (shown items)
 stays_from [] sorted = tt
 stays_from (item ∷ []) sorted = ((λ other none. absurd none), tt)
 stays_from (item ∷ next ∷ others) sorted =
     let rest = stays_from (next ∷ others) (λ k d low high. let is : suc k + 1 ≡ suc (k + 1) = omega arith in rw is at (sorted (suc k) d (omega arith) (omega arith))) in
     (by rest (sorted 0 item (omega arith) (omega arith)), rest)
   where
-    by : Stays (next ∷ others) → precedes next item ≡ false → (other : Item) → Among other (next ∷ others) → precedes other item ≡ false
-    by rest here other (inl is) = ap (λ (one : Item). precedes one item) is ∙ here
-    by rest here other (inr later) = items_rank.chain other next item (rest.0 other later) here
+    by : Stays (shown (next ∷ others)) → precedes next.now item.now ≡ false → (other : Item) → Among other (shown (next ∷ others)) → precedes other item.now ≡ false
+    by rest here other (inl is) = ap (λ (one : Item). precedes one item.now) is ∙ here
+    by rest here other (inr later) = items_rank.chain other next.now item.now (rest.0 other later) here
 
 -- what is kept of sorted items is sorted, each version and key once
 kept_sorted : (last : Item) (items : List Item) → Stays (last ∷ items) → IsSorted (dedup_from same_place last items)
@@ -228,18 +277,19 @@ all_kept_found : (y : Item) (items : List Item) → found y (dedup same_place it
 all_kept_found y [] = refl
 all_kept_found y (item ∷ items) = kept_found y item items
 
--- sorted items, of which those of one version and key stay in their order, without repeats: the union
-pub dedup_union : (items sorted : List Item) → IsSortedBy precedes sorted → IsStableBy precedes items sorted → dedup same_place sorted ≡ union items
-dedup_union items sorted up stable =
-    sorted_same (dedup same_place sorted) (union items) here there
-    (λ y among. found_among y y (union items) (sym (same y) ∙ found_itself y (dedup same_place sorted) here among))
-    (λ y among. found_among y y (dedup same_place sorted) (same y ∙ found_itself y (union items) there among))
+-- sorted references, of which those to one version and key stay in their order, without repeats: they show the union
+pub dedup_union : (refs sorted : List (Bor Item)) → IsSortedBy shown_first sorted → IsStableBy shown_first refs sorted → shown (dedup shown_same sorted) ≡ union (shown refs)
+dedup_union refs sorted up stable =
+    dedup_shown sorted
+    ∙ sorted_same (dedup same_place (shown sorted)) (union (shown refs)) here there
+    (λ y among. found_among y y (union (shown refs)) (sym (same y) ∙ found_itself y (dedup same_place (shown sorted)) here among))
+    (λ y among. found_among y y (dedup same_place (shown sorted)) (same y ∙ found_itself y (union (shown refs)) there among))
   where
-    here : IsSorted (dedup same_place sorted)
-    here = all_kept_sorted sorted (stays_from sorted up)
+    here : IsSorted (dedup same_place (shown sorted))
+    here = all_kept_sorted (shown sorted) (stays_from sorted up)
 
-    there : IsSorted (union items)
-    there = all_added_sorted items [] tt
+    there : IsSorted (union (shown refs))
+    there = all_added_sorted (shown refs) [] tt
 
-    same : (y : Item) → found y (dedup same_place sorted) ≡ found y (union items)
-    same y = all_kept_found y sorted ∙ ap first_of (stable y) ∙ sym (found_all_added y items [] tt)
+    same : (y : Item) → found y (dedup same_place (shown sorted)) ≡ found y (union (shown refs))
+    same y = all_kept_found y (shown sorted) ∙ ap first_of (stable_shown refs sorted stable y) ∙ sym (found_all_added y (shown refs) [] tt)

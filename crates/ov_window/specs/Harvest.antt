@@ -1,10 +1,15 @@
 -- What contracts see of a harvest, and when its answers are enough.
 use Rattle.std.specs.Prelude.{◌≡◌, ℕ, ◌<◌, ◌≤◌, Bool, true, false, List, [], ◌++◌, get_or, length, replicate, slice_set}
+use Rattle.std.specs.List.{flat_map}
 use Rattle.ov_functor.specs.declared.item.Item.{Item}
 use Rattle.ov_topology.specs.Shape.{Shape, votes_of}
 use Rattle.ov_topology.specs.declared.mode.Mode.{Mode}
 use Rattle.ov_topology.specs.declared.mode.Mode.TheVariants.{Quorum, One}
 use Rattle.ov_window.specs.declared.round.Round.{Round}
+
+-- the lists, one behind the other
+abbrev pub joined : {X : Type 0} → List (List X) → List X
+joined lists = flat_map (λ list. list) lists
 
 -- What contracts see of a harvest: the topology, the round, for each partition a mark for each centre whose node has answered, and
 -- the items of these answers, one answer behind the other.

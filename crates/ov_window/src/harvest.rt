@@ -1,9 +1,9 @@
 //! The harvest of a round.
 ghost use Rattle.std.specs.Prelude.{◌≡◌, ◌<◌, ◌≤◌, not, true, false, IfOk, OnOk, OnErr, IsTrue, ◌↔◌, Ok, get_or, length, map, replicate};
-ghost use Rattle.ov_window.specs.Harvest.{IsComplete, IsEnough, IsWhole, fresh, has_answered, with_answer};
+ghost use Rattle.ov_window.specs.Harvest.{IsComplete, IsEnough, IsWhole, fresh, has_answered, joined, with_answer};
 
 use crate::round::Round;
-use ov_base::{Memory, Plain};
+use ov_base::{Memory, Plain, Shared};
 use ov_functor::Item;
 use ov_topology::{Mode, Topology};
 use std::alloc::Global;
@@ -16,16 +16,16 @@ pub struct Harvest {
     topology: Topology,
     round: Round,
     answered: Vec<Vec<bool>>,
-    items: Vec<Item>,
+    answers: Vec<Shared<Item>>,
 }
 
 impl Model for Harvest {
     ghost use Rattle.std.specs.Prelude.{map};
-    ghost use Rattle.ov_window.specs.Harvest.{Gathered, IsMarked};
+    ghost use Rattle.ov_window.specs.Harvest.{Gathered, IsMarked, joined};
 
     ghost Value = { Gathered };
 
-    ghost view = { λ h. record { topology = h.topology; round = h.round; answered = map (λ v. v.items) h.answered.items; items = h.items.items } };
+    ghost view = { λ h. record { topology = h.topology; round = h.round; answered = map (λ v. v.items) h.answered.items; items = joined h.answers.items } };
 
     ghost invariant = { λ h. IsMarked h.topology (map (λ v. v.items) h.answered.items) };
 }
@@ -39,7 +39,7 @@ impl Harvest {
             topology: topology.copy()?,
             round,
             answered: unmarked(alloc, topology.partitions(), topology.centres())?,
-            items: Vec::new(alloc),
+            answers: Vec::new(alloc),
         })
     }
 
@@ -56,17 +56,22 @@ impl Harvest {
         if self.has_answered(centre, part) {
             return Ok(false);
         }
-        let copies = copied(*self.items.allocator(), items)?;
-        self.take_answer(centre, part, copies)?;
+        let copies = copied(*self.answers.allocator(), items)?;
+        self.take_answer(centre, part, Shared::of(copies)?)?;
         Ok(true)
     }
 
-    /// The same with an answer that is handed over, so that no functor is copied. The only error is out of memory.
-    pub fn add_all(&mut self, centre: u32, part: u32, items: Vec<Item>) -> Result<bool, Memory>
+    /// The same with an answer that is handed over, of which nothing is copied. The only error is out of memory.
+    pub fn add_shared(
+        &mut self,
+        centre: u32,
+        part: u32,
+        items: Shared<Item>,
+    ) -> Result<bool, Memory>
         requires centre { centre < self.old.topology.centres }
         requires part { part < self.old.topology.partitions }
         ensures first { IfOk result (λ is_first. is_first ≡ not (has_answered self.old centre part)) }
-        ensures added { result ≡ Ok true → self.new ≡ with_answer self.old centre part items.items }
+        ensures added { result ≡ Ok true → self.new ≡ with_answer self.old centre part items }
         ensures again { result ≡ Ok false → self.new ≡ self.old }
         ensures err { OnErr result (self.new ≡ self.old) }
     {
@@ -107,18 +112,11 @@ impl Harvest {
         self.round
     }
 
-    /// The items of its answers, one answer behind the other.
-    pub(crate) fn items(&self) -> &[Item]
-        ensures { result.now ≡ self.now.items }
+    /// Its answers, in the order in which they were taken.
+    pub(crate) fn answers(&self) -> &[Shared<Item>]
+        ensures { joined result.now ≡ self.now.items }
     {
-        self.items.as_slice()
-    }
-
-    /// The items of its answers, moved out.
-    pub(crate) fn into_items(self) -> Vec<Item>
-        ensures { result.items ≡ self.items }
-    {
-        self.items
+        self.answers.as_slice()
     }
 
     /// Whether the node has answered. Condition: the node is in the topology.
@@ -130,15 +128,14 @@ impl Harvest {
         self.answered[part as usize][centre as usize]
     }
 
-    /// Marks the node, and moves the items of its answer behind the held ones. On an error nothing has changed.
-    fn take_answer(&mut self, centre: u32, part: u32, items: Vec<Item>) -> Result<(), Memory>
+    /// Marks the node, and puts its answer behind the held ones. On an error nothing has changed.
+    fn take_answer(&mut self, centre: u32, part: u32, items: Shared<Item>) -> Result<(), Memory>
         requires centre { centre < self.old.topology.centres }
         requires part { part < self.old.topology.partitions }
-        ensures ok { OnOk result (self.new ≡ with_answer self.old centre part items.items) }
+        ensures ok { OnOk result (self.new ≡ with_answer self.old centre part items) }
         ensures err { OnErr result (self.new ≡ self.old) }
     {
-        let mut answer = items;
-        self.items.append(&mut answer)?;
+        self.answers.push(items)?;
         self.answered[part as usize][centre as usize] = true;
         Ok(())
     }
@@ -178,7 +175,7 @@ fn unmarked(alloc: Global, partitions: u32, centres: u32) -> Result<Vec<Vec<bool
 }
 
 /// Copies of the items.
-pub fn copied(alloc: Global, items: &[Item]) -> Result<Vec<Item>, Memory>
+fn copied(alloc: Global, items: &[Item]) -> Result<Vec<Item>, Memory>
     ensures { IfOk result (λ copies. copies.items ≡ items.now) }
 {
     let mut copies = Vec::with_capacity(alloc, items.len())?;

@@ -7,6 +7,7 @@
 //! Start with `specs/Plan.antt` and `specs/Evaluation.antt`; `specs/Harvest.antt` says when the answers are enough.
 #![tactic(auto)]
 
+mod distinct;
 mod evaluate;
 mod harvest;
 mod laws;

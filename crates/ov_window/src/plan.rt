@@ -7,9 +7,10 @@ ghost use Rattle.ov_functor.specs.declared.item.Item as items;
 ghost use Rattle.ov_window.specs.Drafts.{IsDraft, input_at};
 ghost use Rattle.ov_window.specs.Plan.{IsPlan, map_below, plan_of, plan_over};
 
-use crate::harvest::{Harvest, copied};
+use crate::distinct::distinct_items;
+use crate::harvest::Harvest;
 use crate::union::united;
-use ov_base::{Key, Memory, Sequence, Value, Version};
+use ov_base::{Key, Memory, Plain, Sequence, Value, Version};
 use ov_functor::{Functor, Item};
 use ov_lists::VersionLists;
 use std::alloc::Global;
@@ -67,16 +68,8 @@ impl Plan {
     ) -> Result<Plan, Memory>
         ensures { IfOk result (λ plan. plan ≡ plan_over base.now.entries harvest.now) }
     {
-        let items = copied(alloc, harvest.items())?;
+        let items = distinct_items(alloc, harvest.answers())?;
         planned(alloc, items, harvest.round().from, base)
-    }
-
-    /// The same of a harvest that is handed over, so that no functor is copied.
-    pub fn of(alloc: Global, harvest: Harvest, base: &VersionLists<Value>) -> Result<Plan, Memory>
-        ensures { IfOk result (λ plan. plan ≡ plan_over base.now.entries harvest) }
-    {
-        let from = harvest.round().from;
-        planned(alloc, harvest.into_items(), from, base)
     }
 
     /// Its tasks, by version and then key. Does not allocate.
@@ -91,11 +84,11 @@ impl Plan {
 /// The plan of these items over the values just below a number.
 fn planned(
     alloc: Global,
-    items: Vec<Item>,
+    items: Vec<&Item>,
     from: u64,
     base: &VersionLists<Value>,
 ) -> Result<Plan, Memory>
-    ensures { IfOk result (λ plan. plan ≡ plan_of (map_below from base.now.entries) (union items.items)) }
+    ensures { IfOk result (λ plan. plan ≡ plan_of (map_below from base.now.entries) (union (map (λ one. one.now) items.entry.items))) }
 {
     let items = united(items)?;
     let mut tasks = Vec::with_capacity(alloc, items.len())?;
@@ -110,20 +103,21 @@ fn planned(
 /// Adds the task of an item, which stands behind all before it, and its place.
 fn add_task(
     alloc: Global,
-    item: Item,
+    item: &Item,
     from: u64,
     base: &VersionLists<Value>,
     tasks: &mut Vec<Task>,
     places: &mut VersionLists<usize>,
 ) -> Result<(), Memory>
-    ensures { OnOk result ((older : List items.Item) → ((other : items.Item) → Among other older → precedes other item ≡ true) → IsDraft (map_below from base.now.entries) older tasks.old.items places.old.entries → IsDraft (map_below from base.now.entries) (item ∷ older) tasks.new.items places.new.entries) }
+    ensures { OnOk result ((older : List items.Item) → ((other : items.Item) → Among other older → precedes other item.now ≡ true) → IsDraft (map_below from base.now.entries) older tasks.old.items places.old.entries → IsDraft (map_below from base.now.entries) (item.now ∷ older) tasks.new.items places.new.entries) }
 {
     let inputs = inputs_of(alloc, &item.functor, item.version, from, base, places)?;
+    let functor = item.functor.copy()?;
     places.insert(item.key, item.version, tasks.len())?;
     tasks.push(Task {
         version: item.version,
         key: item.key,
-        functor: item.functor,
+        functor,
         inputs,
     })?;
     Ok(())
@@ -140,8 +134,9 @@ fn inputs_of(
 ) -> Result<Sequence<Input>, Memory>
     ensures { IfOk result (λ inputs. inputs ≡ map (input_at (map_below from base.now.entries) places.now.entries version) (reads functor.now)) }
 {
-    let mut inputs = Sequence::new(alloc);
-    for index in 0..functor.read_count() {
+    let count = functor.read_count();
+    let mut inputs = Sequence::with_capacity(alloc, count)?;
+    for index in 0..count {
         let key = functor.read_key(index);
         inputs.push(input_of(key, version, from, base, places))?;
     }

@@ -4,7 +4,7 @@ ghost use Rattle.std.specs.List.{list_all};
 ghost use Rattle.ov_functor.specs.Transaction.{is_positive};
 
 use crate::{Harvest, Plan, Round, eval_all, place_values, plan_values};
-use ov_base::{Value, Version};
+use ov_base::{Plain, Shared, Value, Version};
 use ov_functor::{Item, Part, Transaction, items_of, parse_parts};
 use ov_lists::VersionLists;
 use ov_topology::{Mode, Topology};
@@ -83,13 +83,13 @@ fn a_move_takes_the_values_of_earlier_places(rt: HostRuntime) -> Result<(), Fail
     add_items(rt.alloc(), 2, "move a b 2", &mut items)?;
     assert_eq!(rt; harvest.add(0, 0, items.as_slice())?, true);
     add_items(rt.alloc(), 1, "put a 3", &mut items)?;
-    assert_eq!(rt; harvest.add_all(1, 0, items)?, true);
+    assert_eq!(rt; harvest.add_shared(1, 0, Shared::of(items)?)?, true);
     let plan = Plan::build(rt.alloc(), &harvest, &base)?;
     assert_eq!(rt;
         amounts_of(rt.alloc(), &plan)?.as_slice(),
         [3, 1, 2].as_slice()
     );
-    let plan = Plan::of(rt.alloc(), harvest, &base)?;
+    let plan = Plan::build(rt.alloc(), &harvest, &base)?;
     let mut places = Vec::new(rt.alloc());
     for task in plan.tasks() {
         places.push((task.version.time(), task.inputs.len()))?;
@@ -97,6 +97,29 @@ fn a_move_takes_the_values_of_earlier_places(rt: HostRuntime) -> Result<(), Fail
     assert_eq!(rt; places.as_slice(), [(1, 0), (2, 2), (2, 2)].as_slice());
     plan_values();
     place_values();
+    Ok(())
+}
+
+#[test]
+fn equal_answers_and_empty_ones_add_nothing(rt: HostRuntime) -> Result<(), Fail> {
+    let topology = Topology::of(rt.alloc(), 3, 2, &[0], 2, 2)?;
+    let mut harvest = Harvest::new(rt.alloc(), &topology, ROUND)?;
+    let base: VersionLists<Value> = VersionLists::new(rt.alloc());
+    let mut items = Vec::new(rt.alloc());
+    add_items(rt.alloc(), 1, "put a 3", &mut items)?;
+    let answer = Shared::of(items)?;
+    let mut others = Vec::new(rt.alloc());
+    add_items(rt.alloc(), 2, "add a 4", &mut others)?;
+    assert_eq!(rt; harvest.add(2, 0, &[])?, true);
+    assert_eq!(rt; harvest.add_shared(0, 1, Shared::of(others)?)?, true);
+    assert_eq!(rt; harvest.add_shared(0, 0, answer.copy()?)?, true);
+    assert_eq!(rt; harvest.add(1, 0, answer.as_slice())?, true);
+    assert_eq!(rt; harvest.add_shared(1, 0, answer)?, false);
+    let plan = Plan::build(rt.alloc(), &harvest, &base)?;
+    assert_eq!(rt;
+        amounts_of(rt.alloc(), &plan)?.as_slice(),
+        [3, 7].as_slice()
+    );
     Ok(())
 }
 
@@ -109,8 +132,8 @@ fn five_thousand_sums_of_one_key(rt: HostRuntime) -> Result<(), Fail> {
     for time in 1..5001 {
         add_items(rt.alloc(), time, "add x 1", &mut items)?;
     }
-    assert_eq!(rt; harvest.add_all(0, 0, items)?, true);
-    let plan = Plan::of(rt.alloc(), harvest, &base)?;
+    assert_eq!(rt; harvest.add_shared(0, 0, Shared::of(items)?)?, true);
+    let plan = Plan::build(rt.alloc(), &harvest, &base)?;
     let mut wanted = Vec::new(rt.alloc());
     for amount in 1..5001 {
         wanted.push(amount)?;

@@ -1,5 +1,5 @@
 //! The union of items: by version and then key, each version and key once.
-ghost use Rattle.std.specs.Prelude.{◌≡◌, IfOk};
+ghost use Rattle.std.specs.Prelude.{◌≡◌, map, IfOk};
 ghost use Rattle.std.specs.Cmp.Lexicographic.{slice_cmp};
 ghost use Rattle.std.specs.Ordering.{nat_cmp, ordering_then};
 ghost use Rattle.ov_functor.specs.Unions as unions;
@@ -9,12 +9,12 @@ use ov_functor::Item;
 use std::cmp::Ordering;
 
 /// The union of items: by version and then key, of one version and key the first.
-pub fn united(items: Vec<Item>) -> Result<Vec<Item>, Memory>
-    ensures { IfOk result (λ v. v.items ≡ unions.union items.items) }
+pub fn united<'a>(items: Vec<&'a Item>) -> Result<Vec<&'a Item>, Memory>
+    ensures { IfOk result (λ v. map (λ one. one.now) v.items ≡ unions.union (map (λ one. one.now) items.entry.items)) }
 {
     let mut all = items;
-    all.sort_by(|left, right| compared(left, right))?;
-    all.dedup_by(|item, kept| is_same_place(item, kept));
+    all.sort_by(|left, right| compared(*left, *right))?;
+    all.dedup_by(|item, kept| is_same_place(*item, *kept));
     Ok(all)
 }
 

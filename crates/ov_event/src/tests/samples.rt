@@ -4,7 +4,7 @@ ghost use Rattle.std.specs.List.{list_all};
 ghost use Rattle.ov_functor.specs.Transaction.{is_positive};
 
 use crate::{Entry, Kind, Letter, Start, Valued};
-use ov_base::{Key, Sequence, Value, Version};
+use ov_base::{Key, Sequence, Shared, Value, Version};
 use ov_functor::{Item, Part, Reply, Transaction, items_of, parse_parts};
 use ov_gossip::{Marks, Vector};
 use ov_topology::{Actor, Mode, Place};
@@ -50,8 +50,9 @@ fn transaction(alloc: Global, parts: &[u8]) -> Result<Transaction, Fail> {
 }
 
 /// The items of `put q 1` at version 1.0.
-fn items(alloc: Global) -> Result<Sequence<Item>, Fail> {
-    Ok(items_of(alloc, version(1, 0)?, &transaction(alloc, b"put q 1")?)?)
+fn items(alloc: Global) -> Result<Shared<Item>, Fail> {
+    let items = items_of(alloc, version(1, 0)?, &transaction(alloc, b"put q 1")?)?;
+    Ok(Shared::of(items.into_vec())?)
 }
 
 fn values(alloc: Global) -> Result<Sequence<Valued>, Fail> {

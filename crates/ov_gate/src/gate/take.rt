@@ -74,8 +74,7 @@ impl GateCore {
 
     /// Takes a `Result` letter, with its `Replied` entry. None exactly where no such entry may follow: the gateway has stopped, the
     /// letter is not a `Result` to it, or the command is not one of its sessions that is begun and not replied. After None, and on an
-    /// error, nothing has changed. The letter stands at the place in the history. Takes memory for a copy of the reply, unlike
-    /// [`GateCore::reply_with`].
+    /// error, nothing has changed. The letter stands at the place in the history. Takes memory for a copy of the reply.
     pub fn replied(&mut self, place: Place, letter: &Letter) -> Result<Option<Entry>, Memory>
         ensures steps { IfOk result (λ answer. (t : Setting) (h : History) (actor : actors.Actor) → IsGate t h actor self.old → letter_at t.topology h place ≡ Some letter.now → Steps IsGate is_replied t h actor (Take place) answer self.new) }
         ensures none { IfOk result (λ answer. answer ≡ None → self.new ≡ self.old) }
@@ -93,9 +92,8 @@ impl GateCore {
         Ok(self.reply_with(place, *session, *seq, *gate, reply.copy()?))
     }
 
-    /// Takes the `Result` letter that stands at the place in the history, as [`GateCore::replied`] does, but the reply is moved into the
-    /// entry, so that it takes no memory.
-    pub fn reply_with(
+    /// The same with what the letter says; it takes no memory.
+    fn reply_with(
         &mut self,
         place: Place,
         session: u32,

@@ -14,7 +14,7 @@ ghost use Rattle.ov_settler.specs.Calls.{IsOpen, IsTold};
 
 use super::SettlerCore;
 use super::settle::valued;
-use ov_base::{Memory, Sequence, same};
+use ov_base::{Memory, Sequence, Shared, same};
 use ov_event::{Entry, Kind, Letter};
 use ov_functor::{Item, Reply, Valued};
 use ov_gossip::Vector;
@@ -86,7 +86,7 @@ impl SettlerCore {
         round: u64,
         centre: u32,
         part: u32,
-        items: &Sequence<Item>,
+        items: &Shared<Item>,
     ) -> bool
         ensures { IsTrue result ↔ ((option_map (λ one. one.now) letter.entry ≡ Some (Answer self.now.centre round centre part items.now)) × IsOpen self.now round) }
     {

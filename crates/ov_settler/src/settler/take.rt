@@ -11,7 +11,7 @@ ghost use Rattle.ov_settler.specs.Settler.{IsSettler, IsSound, is_taken};
 ghost use Rattle.ov_settler.specs.Calls.{Awaits, answered_by, gathered_by};
 
 use super::SettlerCore;
-use ov_base::{Memory, Plain, Sequence};
+use ov_base::{Memory, Plain, Shared};
 use ov_event::{Entry, Kind, Letter};
 use ov_functor::Item;
 use ov_topology::Place;
@@ -21,7 +21,7 @@ impl SettlerCore {
     /// Takes an `Answer` letter, with its `Taken` entry. None exactly where no such entry may follow: the settler has stopped, or the
     /// letter is not an answer to its open round. After None, and on an error, nothing has changed. The letter stands at the place in
     /// the history, and it is sound: an answer to the open round is of a node of the topology, and its items lie in the round's window,
-    /// as in every lawful history (`sound_answers` of `ov_laws`). Copies the items for the entry; [`SettlerCore::take_items`] does not.
+    /// as in every lawful history (`sound_answers` of `ov_laws`). The entry and the harvest share the letter's items.
     pub fn take(&mut self, place: Place, letter: &Letter) -> Result<Option<Entry>, Memory>
         ensures steps { IfOk result (λ answer. (t : Setting) (h : History) (actor : actors.Actor) → IsSettler t h actor self.old → letter_at t.topology h place ≡ Some letter.now → IsSound self.old letter.now → Steps IsSettler is_taken t h actor (Take place) answer self.new) }
         ensures none { IfOk result (λ answer. answer ≡ None → self.new ≡ self.old) }
@@ -40,16 +40,15 @@ impl SettlerCore {
         self.take_items(place, *settler, *round, *centre, *part, items.copy()?)
     }
 
-    /// Takes the `Answer` letter that stands at the place in the history, as [`SettlerCore::take`] does, but the items are moved into
-    /// the entry. Takes memory for a copy of them, which the harvest keeps.
-    pub fn take_items(
+    /// The same with what the letter says.
+    fn take_items(
         &mut self,
         place: Place,
         settler: u32,
         round: u64,
         centre: u32,
         part: u32,
-        items: Sequence<Item>,
+        items: Shared<Item>,
     ) -> Result<Option<Entry>, Memory>
         ensures steps { IfOk result (λ answer. (t : Setting) (h : History) (actor : actors.Actor) → IsSettler t h actor self.old → letter_at t.topology h place ≡ Some (Answer settler round centre part items) → IsSound self.old (Answer settler round centre part items) → Steps IsSettler is_taken t h actor (Take place) answer self.new) }
         ensures none { IfOk result (λ answer. answer ≡ None → self.new ≡ self.old) }
@@ -82,7 +81,7 @@ impl SettlerCore {
     }
 
     /// Adds the answer of a node to the harvest of the open round. On an error nothing has changed.
-    fn gather(&mut self, centre: u32, part: u32, items: &Sequence<Item>) -> Result<(), Memory>
+    fn gather(&mut self, centre: u32, part: u32, items: &Shared<Item>) -> Result<(), Memory>
         requires centre { centre < self.old.topology.centres }
         requires part { part < self.old.topology.partitions }
         ensures ok { OnOk result (self.new ≡ gathered_by centre part items.now self.old) }
@@ -100,14 +99,13 @@ fn add_answer(
     harvest: &mut Harvest,
     centre: u32,
     part: u32,
-    items: &Sequence<Item>,
+    items: &Shared<Item>,
 ) -> Result<(), Memory>
     requires centre { centre < harvest.old.topology.centres }
     requires part { part < harvest.old.topology.partitions }
     ensures ok { OnOk result (harvest.new ≡ answered_by centre part items.now harvest.old) }
     ensures err { OnErr result (harvest.new ≡ harvest.old) }
 {
-    let copies = items.copy()?;
-    harvest.add_all(centre, part, copies.into_vec())?;
+    harvest.add_shared(centre, part, items.copy()?)?;
     Ok(())
 }

@@ -1,6 +1,6 @@
 //! One settler, and the letters of the example.
 use crate::SettlerCore;
-use ov_base::{Amount, Key, Sequence, Value, Version};
+use ov_base::{Amount, Key, Sequence, Shared, Value, Version};
 use ov_event::{Entry, Kind, Letter, Start};
 use ov_functor::{Item, Part, Reply, Shown, Transaction, Valued, items_of};
 use ov_gossip::{Marks, Vector};
@@ -88,8 +88,9 @@ fn put_x(alloc: Global) -> Result<Transaction, Fail> {
 }
 
 /// The items of `put x 5` at the version of time 1.
-fn items(alloc: Global) -> Result<Sequence<Item>, Fail> {
-    Ok(items_of(alloc, version(1)?, &put_x(alloc)?)?)
+fn items(alloc: Global) -> Result<Shared<Item>, Fail> {
+    let items = items_of(alloc, version(1)?, &put_x(alloc)?)?;
+    Ok(Shared::of(items.into_vec())?)
 }
 
 /// The letter of entry 9, but to the round of this number.
