@@ -9,7 +9,7 @@ use ov_io::{FileShelf, StdoutSink};
 use ov_top::{Story, stepped_top};
 use std::alloc::AllocError;
 use std::process::ExitCode;
-use std::{env, io};
+use std::{env, io, mem};
 
 /// The status where memory runs out before the words are known.
 const NO_MEMORY: u8 = 9;
@@ -29,6 +29,8 @@ fn main(rt: HostRuntime) -> ExitCode {
         &mut out,
         &mut story,
     );
+    // The program ends: the system takes the story's memory back at once.
+    mem::forget(story);
     ExitCode::from(status)
 }
 

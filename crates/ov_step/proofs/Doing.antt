@@ -1,7 +1,10 @@
 -- What entries do once and for all.
-use Rattle.std.proofs.Common.{◌≡◌, ℕ, Bool, true, false, cond, ◌&&◌, ◌||◌, ◌==◌, Option, Some, None, List, [], ◌∷◌, refl, sym, ap, ◌∙◌, arith}
+use Rattle.std.proofs.Common.{◌≡◌, ℕ, ◌%◌, ◌<◌, Bool, true, false, cond, ◌&&◌, ◌||◌, ◌==◌, Option, Some, None, unwrap_or, List, [], ◌∷◌, refl, sym, ap, ◌∙◌, arith, inl, inr}
 use Rattle.std.specs.Prelude.{if◌then◌else◌}
-use Rattle.std.specs.List.{list_any}
+use Rattle.std.specs.Map.{lookup}
+use Rattle.std.proofs.Math.Bool.{or_comm}
+use Rattle.std.proofs.lemmas.Bool.{and_parts, cases_Bool, eqb-true}
+use Rattle.std.proofs.lemmas.Bool.Decides.{nat_tests}
 use Rattle.std.proofs.lemmas.Grind.{common_steps}
 use Rattle.ov_topology.specs.declared.actor.Actor.{Actor}
 use Rattle.ov_topology.specs.declared.actor.Actor.TheVariants.{Gate, Node, Settler}
@@ -13,28 +16,67 @@ use Rattle.ov_history.specs.Past.{History, is_node}
 use Rattle.ov_history.specs.Marks.{replies}
 use Rattle.ov_history.specs.Placement.{acks, acked}
 use Rattle.ov_follow.specs.Passes.{tells, told, stores_from, stored_from, is_replied}
-use Rattle.ov_step.specs.Deeds.{AllDone, deed_by, deed_of, is_done, same_deed}
-use Rattle.ov_step.specs.contracts.deeds.DeedPartialEq.TheImpl.{ghosts}
+use Rattle.ov_step.specs.Deeds.{AllDone, deed_by, deed_of, is_done, number_of, numbers, same_subject, subject_of, with_one}
+use Rattle.ov_step.specs.contracts.deeds.SubjectPartialEq.TheImpl.{ghosts}
 use Rattle.ov_step.specs.declared.deeds.Deed.{Deed}
 use Rattle.ov_step.specs.declared.deeds.Deed.TheVariants.{Told, Stored, Acked, Replied}
+use Rattle.ov_step.specs.declared.deeds.Subject.{Subject}
+use Rattle.ov_step.specs.declared.deeds.Subject.TheVariants.{Command, Letter, Version}
+use Rattle.ov_base.specs.declared.small.SmallSet.{SmallSet}
+use Rattle.ov_base.specs.Small.{empty_set, has, with_number}
+use Rattle.ov_base.proofs.SmallSets.{empty_has, with_either}
 
--- ---- the test of deeds
+-- ---- the subjects of deeds
 
 -- the derived test is the one of the definitions
-pub test_is : (one other : Deed) → ghosts.eq one other ≡ same_deed one other
-test_is (Told g s c) (Told g2 s2 c2) = grind (arith, common_steps)
-test_is (Told g s c) other = refl
-test_is (Stored n l c p) (Stored n2 l2 c2 p2) = grind (arith, common_steps)
-test_is (Stored n l c p) other = refl
-test_is (Acked g v c p) (Acked g2 v2 c2 p2) = grind (arith, common_steps)
-test_is (Acked g v c p) other = refl
-test_is (Replied s c) (Replied s2 c2) = grind (arith, common_steps)
-test_is (Replied s c) other = refl
+pub test_is : (one other : Subject) → ghosts.eq one other ≡ same_subject one other
+test_is (Command s c b) (Command s2 c2 b2) = grind (arith, common_steps)
+test_is (Command s c b) other = refl
+test_is (Letter n l p b) (Letter n2 l2 p2 b2) = grind (arith, common_steps)
+test_is (Letter n l p b) other = refl
+test_is (Version g v p b) (Version g2 v2 p2 b2) = grind (arith, common_steps)
+test_is (Version g v p b) other = refl
 
--- a list is tested alike
-pub tests_are : (deed : Deed) (deeds : List Deed) → list_any (ghosts.eq deed) deeds ≡ list_any (same_deed deed) deeds
-tests_are deed [] = refl
-tests_are deed (other ∷ deeds) = rw (test_is deed other, tests_are deed deeds) refl
+-- subjects that are tested alike are one
+same_is : (one other : Subject) → same_subject one other ≡ true → one ≡ other
+same_is (Command s c b) (Command s2 c2 b2) is =
+    let parts = and_parts (s == s2) ((c == c2) && (b == b2)) is in
+    let rest = and_parts (c == c2) (b == b2) parts.1 in
+    rw (eqb-true s s2 parts.0, eqb-true c c2 rest.0, eqb-true b b2 rest.1) refl
+same_is (Command s c b) other is = absurd (cc)
+same_is (Letter n l p b) (Letter n2 l2 p2 b2) is =
+    let parts = and_parts (n == n2) ((l == l2) && ((p == p2) && (b == b2))) is in
+    let rest = and_parts (l == l2) ((p == p2) && (b == b2)) parts.1 in
+    let last = and_parts (p == p2) (b == b2) rest.1 in
+    rw (eqb-true n n2 parts.0, eqb-true l l2 rest.0, eqb-true p p2 last.0, eqb-true b b2 last.1) refl
+same_is (Letter n l p b) other is = absurd (cc)
+same_is (Version g v p b) (Version g2 v2 p2 b2) is =
+    let parts = and_parts (g == g2) ((v == v2) && ((p == p2) && (b == b2))) is in
+    let rest = and_parts (v == v2) ((p == p2) && (b == b2)) parts.1 in
+    let last = and_parts (p == p2) (b == b2) rest.1 in
+    rw (eqb-true g g2 parts.0, eqb-true v v2 rest.0, eqb-true p p2 last.0, eqb-true b b2 last.1) refl
+same_is (Version g v p b) other is = absurd (cc)
+
+-- whether two deeds are one
+abbrev same_deed : Deed → Deed → Bool
+same_deed (Told g s c) (Told g2 s2 c2) = (g == g2) && ((s == s2) && (c == c2))
+same_deed (Stored n l c p) (Stored n2 l2 c2 p2) = (n == n2) && ((l == l2) && ((c == c2) && (p == p2)))
+same_deed (Acked g v c p) (Acked g2 v2 c2 p2) = (g == g2) && ((v == v2) && ((c == c2) && (p == p2)))
+same_deed (Replied s c) (Replied s2 c2) = (s == s2) && (c == c2)
+same_deed one other = false
+
+-- deeds are one where they have the same number among those of one subject
+parts_are : (one other : Deed) → (same_subject (subject_of one) (subject_of other) && (number_of one == number_of other)) ≡ same_deed one other
+parts_are (Told g s c) (Told g2 s2 c2) = grind (arith, nat_tests)
+parts_are (Told g s c) (Replied s2 c2) = grind (arith, nat_tests)
+parts_are (Told g s c) other = refl
+parts_are (Stored n l c p) (Stored n2 l2 c2 p2) = grind (arith, nat_tests)
+parts_are (Stored n l c p) other = refl
+parts_are (Acked g v c p) (Acked g2 v2 c2 p2) = grind (arith, nat_tests)
+parts_are (Acked g v c p) other = refl
+parts_are (Replied s c) (Told g2 s2 c2) = grind (arith, nat_tests)
+parts_are (Replied s c) (Replied s2 c2) = grind (arith, nat_tests)
+parts_are (Replied s c) other = refl
 
 -- ---- one entry more
 
@@ -113,23 +155,56 @@ done_more (Replied s c) e h = ap (λ (b : Bool). b || is_replied s c h) (replied
 
 -- of the empty history
 pub none_done : AllDone [] []
-none_done (Told g s c) = refl
-none_done (Stored n l c p) = refl
-none_done (Acked g v c p) = refl
-none_done (Replied s c) = refl
+none_done (Told g s c) = empty_has (g % 32)
+none_done (Stored n l c p) = empty_has (c % 32)
+none_done (Acked g v c p) = empty_has (c % 32)
+none_done (Replied s c) = empty_has 32
 
 -- with an entry more that does nothing once and for all
-pub same_done : (e : Entry) (deeds : List Deed) → deed_of e ≡ None → (h : History) → AllDone h deeds → AllDone (e ∷ h) deeds
-same_done e deeds none h all deed = all deed ∙ sym (done_more deed e h ∙ ap (λ (o : Option Deed). does deed o || is_done deed h) none)
+pub same_done : (e : Entry) (known : List (Subject × SmallSet)) → deed_of e ≡ None → (h : History) → AllDone h known → AllDone (e ∷ h) known
+same_done e known none h all deed = all deed ∙ sym (done_more deed e h ∙ ap (λ (o : Option Deed). does deed o || is_done deed h) none)
+
+-- the numbers of a subject's deeds, by the derived test
+numbers_are : (known : List (Subject × SmallSet)) (subject : Subject) → unwrap_or (lookup (ghosts.eq subject) known) empty_set ≡ numbers known subject
+numbers_are [] subject = refl
+numbers_are (e ∷ known) subject = rw (test_is subject e.0) (by (same_subject subject e.0) (numbers_are known subject))
+  where
+    by : (b : Bool) → unwrap_or (lookup (ghosts.eq subject) known) empty_set ≡ numbers known subject
+        → unwrap_or (cond b (Some e.1) (lookup (ghosts.eq subject) known)) empty_set ≡ unwrap_or (cond b (Some e.1) (lookup (same_subject subject) known)) empty_set
+    by true rest = refl
+    by false rest = rest
+
+-- what is known of each subject, where one number more was put to those of one
+pub put_is : (one : Subject) (number : ℕ) (old new : List (Subject × SmallSet)) (other : Subject)
+    → lookup (ghosts.eq other) new ≡ cond (ghosts.eq one other) (Some (with_number number (unwrap_or (lookup (ghosts.eq one) old) empty_set))) (lookup (ghosts.eq other) old)
+    → numbers new other ≡ with_one one number old other
+put_is one number old new other is =
+    sym (numbers_are new other) ∙ rw (is, test_is one other, numbers_are old one) (by (same_subject one other))
+  where
+    by : (b : Bool)
+        → unwrap_or (cond b (Some (with_number number (numbers old one))) (lookup (ghosts.eq other) old)) empty_set
+        ≡ cond b (with_number number (numbers old one)) (numbers old other)
+    by true = refl
+    by false = numbers_are old other
+
+-- where the number of a deed was put to those of its subject, a deed is known that is that one or was known
+put_knows : (done deed : Deed) (known : List (Subject × SmallSet)) → number_of done < 64
+    → has (with_one (subject_of done) (number_of done) known (subject_of deed)) (number_of deed) ≡ (same_deed done deed || has (numbers known (subject_of deed)) (number_of deed))
+put_knows done deed known small =
+    elim (cases_Bool (same_subject (subject_of done) (subject_of deed))) [
+      | inl is ↦
+          rw is (with_either (number_of done) (number_of deed) (numbers known (subject_of done)) small)
+          ∙ or_comm (has (numbers known (subject_of done)) (number_of deed)) (number_of done == number_of deed)
+          ∙ ap (λ (subject : Subject). (number_of done == number_of deed) || has (numbers known subject) (number_of deed)) (same_is (subject_of done) (subject_of deed) is)
+          ∙ ap (λ (b : Bool). b || has (numbers known (subject_of deed)) (number_of deed)) (rw is at (parts_are done deed))
+      | inr other ↦ rw other (ap (λ (b : Bool). b || has (numbers known (subject_of deed)) (number_of deed)) (rw other at (parts_are done deed)))
+    ]
 
 -- with an entry more that does a deed
-pub more_done : (e : Entry) (done : Deed) (old new : List Deed) → deed_of e ≡ Some done
-    → ((deed : Deed) → list_any (ghosts.eq deed) new ≡ cond (ghosts.eq done deed) true (list_any (ghosts.eq deed) old))
+pub more_done : (e : Entry) (done : Deed) (old new : List (Subject × SmallSet)) → deed_of e ≡ Some done → number_of done < 64
+    → ((subject : Subject) → numbers new subject ≡ with_one (subject_of done) (number_of done) old subject)
     → (h : History) → AllDone h old → AllDone (e ∷ h) new
-more_done e done old new some updated h all deed =
-    sym (tests_are deed new) ∙ updated deed ∙ rw (test_is done deed, tests_are deed old, all deed) (either (same_deed done deed))
+more_done e done old new some small is h all deed =
+    ap (λ (s : SmallSet). has s (number_of deed)) (is (subject_of deed))
+    ∙ put_knows done deed old small ∙ ap (λ (b : Bool). same_deed done deed || b) (all deed)
     ∙ sym (done_more deed e h ∙ ap (λ (o : Option Deed). does deed o || is_done deed h) some)
-  where
-    either : (b : Bool) → cond b true (is_done deed h) ≡ (b || is_done deed h)
-    either true = refl
-    either false = refl

@@ -5,6 +5,7 @@ ghost use Rattle.ov_follow.specs.Passes.{each, over, write_lines};
 ghost use Rattle.ov_world.specs.Acts.{line_in};
 ghost use Rattle.ov_world.specs.World.{setting_of};
 ghost use Rattle.ov_step.specs.Deeds.{AllDone};
+ghost use Rattle.ov_step.specs.declared.deeds.Deed.TheVariants.{Stored};
 ghost use Rattle.ov_step.specs.Gathered.{stored_by};
 ghost use Rattle.ov_step.specs.Storing.{node_stores};
 ghost use Rattle.ov_step.specs.QuietStores.{stores_stay};
@@ -13,7 +14,7 @@ use crate::deeds::{Deed, Deeds};
 use crate::gather::EntryPass;
 use crate::lines::push_take;
 use ov_base::Memory;
-use ov_event::{Entry, Kind, Start, touches};
+use ov_event::{Entry, Kind, Start, touched_parts};
 use ov_functor::Part;
 use ov_topology::{Actor, Place};
 use ov_world::{Line, World};
@@ -81,9 +82,10 @@ fn list_writes(
     ensures { OnOk result ((version : ℕ) → map line_in lines.new.items ≡ map line_in lines.old.items ++ over (write_lines (setting_of world.now) world.now.history number) 1 (map (write_of world.now.topology version parts.now) (touched world.now.topology parts.now))) }
 {
     let topology = world.topology();
+    let touched = touched_parts(topology, parts);
     let mut letter = 0;
     for part in 0..topology.partitions() {
-        if touches(topology, parts, part) {
+        if touched.has(part) {
             letter += 1;
             list_write(world, deeds, number, letter, part, lines)?;
         }
@@ -104,20 +106,27 @@ fn list_write(
     requires { AllDone world.now.history deeds.now }
     ensures { OnOk result (map line_in lines.new.items ≡ map line_in lines.old.items ++ each (node_stores number letter part world.now.history) world.now.topology.centres) }
 {
+    let place = Place {
+        entry: number,
+        letter,
+    };
+    let mut last = deeds.look_up(stored(place, 0, part));
     for centre in 0..world.topology().centres() {
-        let deed = Deed::Stored {
-            entry: number,
-            letter,
-            centre,
-            part,
-        };
-        if !deeds.has(deed) {
-            let place = Place {
-                entry: number,
-                letter,
-            };
+        if !deeds.has_next(stored(place, centre, part), &mut last) {
             push_take(world, Actor::Node { centre, part }, place, lines)?;
         }
     }
     Ok(())
+}
+
+/// That a node stored the letter of this place. Does not allocate.
+fn stored(place: Place, centre: u32, part: u32) -> Deed
+    ensures { result ≡ Stored place.entry place.letter centre part }
+{
+    Deed::Stored {
+        entry: place.entry,
+        letter: place.letter,
+        centre,
+        part,
+    }
 }

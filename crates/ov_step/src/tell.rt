@@ -4,12 +4,13 @@ ghost use Rattle.ov_topology.specs.Shape.{gates};
 ghost use Rattle.ov_follow.specs.Passes.{each};
 ghost use Rattle.ov_world.specs.Acts.{line_in};
 ghost use Rattle.ov_world.specs.World.{setting_of};
-ghost use Rattle.ov_step.specs.Deeds.{AllDone};
+ghost use Rattle.ov_step.specs.Deeds.{AllDone, IsLookup};
+ghost use Rattle.ov_step.specs.declared.deeds.Deed.TheVariants.{Told};
 ghost use Rattle.ov_step.specs.Gathered.{told_by};
 ghost use Rattle.ov_step.specs.Quiet.{tells_stay};
 ghost use Rattle.ov_step.specs.Telling.{told_line};
 
-use crate::deeds::{Deed, Deeds};
+use crate::deeds::{Deed, Deeds, Lookup};
 use crate::gather::EntryPass;
 use crate::lines::push_take;
 use ov_base::Memory;
@@ -67,30 +68,29 @@ fn list_tolds(
     requires { AllDone world.now.history deeds.now }
     ensures { OnOk result (map line_in lines.new.items ≡ map line_in lines.old.items ++ each (told_line world.now.history replied.now) (gates world.now.topology)) }
 {
+    let mut last = deeds.look_up(told(replied, 0));
     for gate in 0..world.topology().gateways() {
-        list_told(world, deeds, replied, gate, lines)?;
+        list_told(world, deeds, replied, gate, &mut last, lines)?;
     }
     Ok(())
 }
 
-/// Lists the line by which a gateway is told of the entry, where there is one. Condition: these are the deeds of the world's history. The only error
-/// is out of memory.
+/// Lists the line by which a gateway is told of the entry, where there is one. Conditions: these are the deeds of the world's history, of which one
+/// was looked up last; then one was again. The only error is out of memory.
 fn list_told(
     world: &World,
     deeds: &Deeds,
     replied: &RepliedEntry,
     gate: u32,
+    last: &mut Lookup,
     lines: &mut Vec<Line>,
 ) -> Result<(), Memory>
-    requires { AllDone world.now.history deeds.now }
-    ensures { OnOk result (map line_in lines.new.items ≡ map line_in lines.old.items ++ told_line world.now.history replied.now gate) }
+    requires deeds { AllDone world.now.history deeds.now }
+    requires last { IsLookup deeds.now last.old }
+    ensures last { OnOk result (IsLookup deeds.now last.new) }
+    ensures lines { OnOk result (map line_in lines.new.items ≡ map line_in lines.old.items ++ told_line world.now.history replied.now gate) }
 {
-    let told = Deed::Told {
-        gate,
-        session: replied.session,
-        seq: replied.seq,
-    };
-    if gate == replied.gate || deeds.has(told) {
+    if gate == replied.gate || deeds.has_next(told(replied, gate), last) {
         return Ok(());
     }
     let place = Place {
@@ -98,4 +98,15 @@ fn list_told(
         letter: 1,
     };
     push_take(world, Actor::Gate(gate), place, lines)
+}
+
+/// That a gateway was told of the entry. Does not allocate.
+fn told(replied: &RepliedEntry, gate: u32) -> Deed
+    ensures { result ≡ Told gate replied.now.session replied.now.seq }
+{
+    Deed::Told {
+        gate,
+        session: replied.session,
+        seq: replied.seq,
+    }
 }

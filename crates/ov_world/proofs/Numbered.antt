@@ -1,6 +1,6 @@
 -- Entries by their numbers: in the order in which they came, and in the history, where the newest comes first.
-use Rattle.std.proofs.Common.{◌≡◌, ◌≢◌, ℕ, zero, suc, ◌+◌, ◌==◌, Option, Some, None, List, [], ◌∷◌, ◌++◌, length, get_or, Bor, refl, sym, ap, ◌∙◌, arith, inl, inr}
-use Rattle.std.specs.Prelude.{reverse, slice_get, is_some, nat_lt, IfSome, if◌then◌else◌}
+use Rattle.std.proofs.Common.{◌≡◌, ◌≢◌, ℕ, zero, suc, ◌+◌, ◌<◌, Option, Some, None, List, [], ◌∷◌, ◌++◌, length, get_or, Bor, refl, sym, ap, ◌∙◌, arith, inl, inr}
+use Rattle.std.specs.Prelude.{reverse, slice_get, is_some, nat_lt, IfSome}
 use Rattle.std.specs.Option.{option_map}
 use Rattle.std.proofs.lemmas.Bool.{ltb-true, ltb-false}
 use Rattle.std.proofs.lemmas.Option.{slice_get_past, slice_get_read}
@@ -8,6 +8,12 @@ use Rattle.std.proofs.lemmas.Bool.Decides.{eqb_tells}
 use Rattle.std.proofs.lemmas.List.{length-reverse, reverse-reverse, reverse-append}
 use Rattle.ov_base.proofs.Lists.{get_next}
 use Rattle.ov_event.specs.declared.entry.Entry.{Entry}
+use Rattle.ov_event.specs.declared.letter.Letter.{Letter}
+use Rattle.ov_topology.specs.Shape.{Shape}
+use Rattle.ov_topology.specs.declared.place.Place.{Place}
+use Rattle.ov_world.specs.Delivered.{IsKept}
+use Rattle.ov_world.specs.declared.delivered.Delivered.{Delivered}
+use Rattle.ov_history.specs.Letters.{letter}
 use Rattle.ov_history.specs.Past.{History, at}
 
 -- an element that is not the last
@@ -50,3 +56,29 @@ reverse_more entries e = reverse-append entries (e ∷ [])
 pub found_is : {X : Type 0} (found : Option (Bor X)) (xs : List X) (k : ℕ) → is_some found ≡ nat_lt k (length xs) → IfSome found (λ x. x.now ≡ get_or xs k x.now) → option_map (λ x. x.now) found ≡ slice_get xs k
 found_is None xs k is same = sym (slice_get_past xs k (ltb-false k (length xs) (sym is)))
 found_is (Some x) xs k is same = sym (slice_get_read xs (length xs) k x.now refl (ltb-true k (length xs) (sym is)) same)
+
+-- ---- letters by their places
+
+-- one more entry leaves the letter at a place
+letter_by_place : (t : Shape) (h : History) (e : Entry) (place : Place) (sent : Letter) → letter t h place ≡ Some sent → letter t (e ∷ h) place ≡ Some sent
+letter_by_place t h e place sent there =
+    elim (eqb_tells place.entry (length h + 1)) [
+      | inl same ↦ absurd (none_there h place sent same.1 there)
+      | inr other ↦ rw other.0 there
+    ]
+  where
+    past : (g : History) (n : ℕ) → length g < n → at g n ≡ None
+    past [] n less = refl
+    past (first ∷ g) n less =
+        elim (eqb_tells n (length g + 1)) [
+          | inl same ↦ absurd (omega (arith, same.1))
+          | inr other ↦ rw other.0 (past g n (omega arith))
+        ]
+
+    none_there : (g : History) (p : Place) (l : Letter) → p.entry ≡ length g + 1 → letter t g p ≡ Some l → ⊥
+    none_there g p l is there = let none = past g p.entry (omega (arith, is)) in let bad : None ≡ Some l = rw none at there in absurd (cc)
+
+-- one more entry leaves the letter that is kept
+pub letter_stays : (t : Shape) (h : History) (e : Entry) (last : Option Delivered) → IsKept t h last → IsKept t (e ∷ h) last
+letter_stays t h e None kept = tt
+letter_stays t h e (Some one) kept = letter_by_place t h e one.place one.letter kept

@@ -1,5 +1,4 @@
 -- What is true of every lawful history, from the laws.
-use Rattle.std.proofs.Common.{ℕ}
 use Rattle.ov_history.specs.Past.{History}
 use Rattle.ov_history.specs.May.{Setting}
 use Rattle.ov_laws.specs.Runs.{IsRun}

@@ -1,7 +1,7 @@
 -- The cores of a world, after one more entry.
-use Rattle.std.proofs.Common.{◌≡◌, ◌≢◌, ℕ, zero, suc, ◌+◌, ◌<◌, Bool, true, false, IsTrue, ◌↔◌, ◌==◌, ◌&&◌, ◌||◌, Option, Some, None, List, [], ◌∷◌, ◌++◌, length, get_or, refl, sym, ap, subst, ◌∙◌, arith, inl, inr}
-use Rattle.std.specs.Prelude.{slice_get, slice_set, is_some, if◌then◌else◌}
-use Rattle.std.proofs.lemmas.Bool.{cases_Bool, eqb-true, false_from_ne_true}
+use Rattle.std.proofs.Common.{◌≡◌, ◌≢◌, ℕ, zero, suc, ◌+◌, ◌<◌, Bool, true, false, IsTrue, ◌↔◌, ◌==◌, ◌||◌, Some, None, List, [], ◌∷◌, ◌++◌, length, get_or, refl, sym, ap, subst, ◌∙◌, arith, inl, inr}
+use Rattle.std.specs.Prelude.{slice_get, slice_set, if◌then◌else◌}
+use Rattle.std.proofs.lemmas.Bool.{eqb-true, false_from_ne_true}
 use Rattle.std.proofs.lemmas.Bool.Decides.{eqb_tells}
 use Rattle.std.proofs.lemmas.List.{length-append, length-set}
 use Rattle.std.proofs.lemmas.Option.{same_Some, slice_get_read}
@@ -12,7 +12,7 @@ use Rattle.ov_topology.specs.declared.actor.Actor.TheVariants as actors
 use Rattle.ov_topology.proofs.Numbers.{number_of_actor}
 use Rattle.ov_event.specs.declared.entry.Entry.{Entry}
 use Rattle.ov_history.specs.Past.{History, same_actor, stopped, stops}
-use Rattle.ov_history.specs.May.{Setting, May, MayBy, Lawful}
+use Rattle.ov_history.specs.May.{Setting, May, Lawful}
 use Rattle.ov_history.specs.Gives.{Act, act_of, gives}
 use Rattle.ov_history.specs.Cores.{onto}
 use Rattle.ov_history.proofs.Cores.{runs_on}
@@ -22,7 +22,6 @@ use Rattle.ov_history.proofs.Stays.{held-stays}
 use Rattle.ov_node.specs.Node.{NodeState, IsNode}
 use Rattle.ov_gate.proofs.Others.{stays as gate_stays}
 use Rattle.ov_settler.proofs.Others.{stays as settler_stays}
-use Rattle.ov_laws.specs.Runs.{IsRun}
 use Rattle.ov_base.proofs.Lists.{get_next}
 use Rattle.ov_world.proofs.Numbered.{get_other}
 use Rattle.ov_world.specs.Actors.{AllStand, Does, StandUpTo, Stands}

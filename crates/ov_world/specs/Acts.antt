@@ -1,5 +1,4 @@
 -- What actors are asked to do, as code says it and as the definitions do.
-use Rattle.ov_topology.specs.declared.actor.Actor.{Actor}
 use Rattle.ov_history.specs.Gives.{Act}
 use Rattle.ov_history.specs.Gives as acts
 use Rattle.ov_follow.specs.Lines as lines

@@ -1,3 +1,4 @@
+pub mod Delivered
 pub mod Acts
 pub mod Actors
 pub mod World

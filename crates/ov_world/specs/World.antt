@@ -1,5 +1,5 @@
 -- What contracts see of a world.
-use Rattle.std.specs.Prelude.{ℕ, Option, List}
+use Rattle.std.specs.Prelude.{Option, List}
 use Rattle.ov_topology.specs.Shape.{Shape}
 use Rattle.ov_script.specs.Script.{Content}
 use Rattle.ov_script.specs.Sessions.{roster_of}
@@ -9,7 +9,9 @@ use Rattle.ov_history.specs.May.{Setting}
 use Rattle.ov_history.specs.Cores.{onto}
 use Rattle.ov_laws.specs.Runs.{IsRun}
 use Rattle.ov_world.specs.Actors.{AllStand}
+use Rattle.ov_world.specs.Delivered.{IsKept}
 use Rattle.ov_world.specs.declared.actor_core.ActorCore.{ActorCore}
+use Rattle.ov_world.specs.declared.delivered.Delivered.{Delivered}
 
 -- A world: its topology, its script, and its history, the newest entry first.
 pub record WorldState : Type 0 where
@@ -33,3 +35,8 @@ grown answer w = record w { history = onto answer w.history }
 pub record IsWorld (t : Setting) (h : History) (cores : List ActorCore) : Type 0 where
   pub run : IsRun t h
   pub stand : AllStand t h cores
+
+-- The world is one, and the letter that it keeps is one of its history.
+pub record Keeps (t : Setting) (h : History) (cores : List ActorCore) (last : Option Delivered) : Type 0 where
+  pub world : IsWorld t h cores
+  pub letter : IsKept t.topology h last

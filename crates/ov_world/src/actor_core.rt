@@ -66,10 +66,10 @@ impl ActorCore {
         alloc: Global,
         roster: &Roster,
         act: Act,
-        letter: Option<Letter>,
+        letter: Option<&Letter>,
     ) -> Result<Option<Entry>, Memory>
         requires { IsRoster roster.now }
-        ensures does { IfOk result (λ answer. (t : Setting) (h : History) (actor : actors.Actor) → t.roster ≡ roster.now → Lawful t h → Stands t h actor self.old → letter ≡ letter_for t.topology h (act_in act) → Does Stands t h actor (act_in act) answer self.new) }
+        ensures does { IfOk result (λ answer. (t : Setting) (h : History) (actor : actors.Actor) → t.roster ≡ roster.now → Lawful t h → Stands t h actor self.old → option_map (λ one. one.now) letter.entry ≡ letter_for t.topology h (act_in act) → Does Stands t h actor (act_in act) answer self.new) }
         ensures none { IfOk result (λ answer. answer ≡ None → self.new ≡ self.old) }
         ensures err { OnErr result (self.new ≡ self.old) }
     {

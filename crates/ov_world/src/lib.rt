@@ -10,6 +10,7 @@
 
 mod act;
 mod actor_core;
+mod delivered;
 mod line;
 mod story;
 #[cfg(test)]

@@ -1,11 +1,7 @@
 //! A world.
 ghost use Rattle.std.specs.Prelude.{◌≡◌, [], reverse, Some, IfOk};
-ghost use Rattle.std.specs.Option.{option_map};
 ghost use Rattle.ov_session.specs.Standing.{IsRoster};
-ghost use Rattle.ov_history.specs.Past.{at, stopped};
-ghost use Rattle.ov_history.specs.Letters.{letter as letter_at};
-ghost use Rattle.ov_history.specs.Cores.{letter_for};
-ghost use Rattle.ov_world.specs.Acts.{act_in};
+ghost use Rattle.ov_history.specs.Past.{stopped};
 ghost use Rattle.ov_world.specs.Actors.{AllStand};
 ghost use Rattle.ov_world.specs.Holds.{Holds};
 ghost use Rattle.ov_world.specs.World.{setting_of};
@@ -13,14 +9,14 @@ ghost use Rattle.ov_world.specs.World.{setting_of};
 mod admit;
 mod follow;
 
-use crate::act::Act;
 use crate::actor_core::ActorCore;
+use crate::delivered::Delivered;
 use crate::story::Story;
 use ov_base::{Memory, Sequence};
-use ov_event::{Entry, Letter, letter_of};
+use ov_event::Entry;
 use ov_script::Script;
 use ov_session::Roster;
-use ov_topology::{Actor, Place, Topology};
+use ov_topology::{Actor, Topology};
 use std::alloc::Global;
 use std::marker::Model;
 
@@ -34,17 +30,19 @@ pub struct World {
     cores: Vec<ActorCore>,
     /// What was done, the oldest entry first.
     entries: Vec<Entry>,
+    /// The letter that was taken last, for those who take it next.
+    last: Option<Delivered>,
 }
 
 impl Model for World {
     ghost use Rattle.std.specs.Prelude.{reverse};
-    ghost use Rattle.ov_world.specs.World.{WorldState, IsWorld, setting_by};
+    ghost use Rattle.ov_world.specs.World.{WorldState, Keeps, setting_by};
 
     ghost Value = { WorldState };
 
     ghost view = { λ w. record { topology = w.topology; script = w.script; history = reverse w.entries.items } };
 
-    ghost invariant = { λ w. IsWorld (setting_by w.topology w.script) (reverse w.entries.items) w.cores.items };
+    ghost invariant = { λ w. Keeps (setting_by w.topology w.script) (reverse w.entries.items) w.cores.items w.last };
 }
 
 impl World {
@@ -59,6 +57,7 @@ impl World {
             script,
             cores,
             entries: Vec::new(alloc),
+            last: None,
         };
         world.assure();
         Ok(world)
@@ -114,42 +113,6 @@ impl World {
         ensures { Holds (setting_of self.now) self.now.history }
     {
         let _ = &self.entries;
-    }
-
-    /// The history's letter that an act takes. None where it takes none, or the history has no such letter. The only error is out of
-    /// memory.
-    fn letter_for(&self, act: Act) -> Result<Option<Letter>, Memory>
-        ensures { IfOk result (λ letter. letter ≡ letter_for self.now.topology self.now.history (act_in act)) }
-    {
-        match act {
-            Act::Take { place } => self.letter_at(place),
-            _ => Ok(None),
-        }
-    }
-
-    /// The history's letter at a place. None where it has none. Looks at one entry; the only error is out of memory.
-    fn letter_at(&self, place: Place) -> Result<Option<Letter>, Memory>
-        ensures { IfOk result (λ letter. letter ≡ letter_at self.now.topology self.now.history place) }
-    {
-        match self.entry_at(place.entry) {
-            None => Ok(None),
-            Some(entry) => letter_of(
-                *self.entries.allocator(),
-                &self.topology,
-                entry,
-                place.letter,
-            ),
-        }
-    }
-
-    /// The entry of a number, from 1, the oldest. None exactly where there is none.
-    fn entry_at(&self, number: u64) -> Option<&Entry>
-        ensures { option_map (λ one. one.now) result ≡ at self.now.history number }
-    {
-        if number == 0 {
-            return None;
-        }
-        self.entries.get((number - 1) as usize)
     }
 }
 

@@ -1,5 +1,6 @@
 //! What a gateway does for an act.
 ghost use Rattle.std.specs.Prelude.{◌≡◌, None, Some, IfOk, OnErr};
+ghost use Rattle.std.specs.Option.{option_map};
 ghost use Rattle.ov_topology.specs.declared.actor.Actor as actors;
 ghost use Rattle.ov_session.specs.Standing.{IsRoster};
 ghost use Rattle.ov_history.specs.Past.{History};
@@ -23,39 +24,22 @@ pub(super) fn act(
     core: &mut GateCore,
     roster: &Roster,
     act: Act,
-    letter: Option<Letter>,
+    letter: Option<&Letter>,
 ) -> Result<Option<Entry>, Memory>
     requires { IsRoster roster.now }
-    ensures does { IfOk result (λ answer. (t : Setting) (h : History) (actor : actors.Actor) → t.roster ≡ roster.now → Lawful t h → IsGate t h actor core.old → letter ≡ letter_for t.topology h (act_in act) → Does IsGate t h actor (act_in act) answer core.new) }
+    ensures does { IfOk result (λ answer. (t : Setting) (h : History) (actor : actors.Actor) → t.roster ≡ roster.now → Lawful t h → IsGate t h actor core.old → option_map (λ one. one.now) letter.entry ≡ letter_for t.topology h (act_in act) → Does IsGate t h actor (act_in act) answer core.new) }
     ensures none { IfOk result (λ answer. answer ≡ None → core.new ≡ core.old) }
     ensures err { OnErr result (core.new ≡ core.old) }
 {
     match act {
         Act::Begin { session, clock } => core.begin(roster, session, clock),
         Act::Take { place } => match letter {
-            Some(letter) => take_letter(core, place, letter),
+            Some(letter) => take(core, place, letter),
             None => Ok(None),
         },
         Act::Publish { clock } => Ok(core.publish(clock)),
         Act::Stop => Ok(core.stop()),
         Act::Ask { .. } | Act::Settle => Ok(None),
-    }
-}
-
-/// Takes the letter at the place, with its entry, into which what the letter holds is moved. None exactly where the gateway gives none.
-fn take_letter(core: &mut GateCore, place: Place, letter: Letter) -> Result<Option<Entry>, Memory>
-    ensures does { IfOk result (λ answer. (t : Setting) (h : History) (actor : actors.Actor) → Lawful t h → IsGate t h actor core.old → letter_at t.topology h place ≡ Some letter → Does IsGate t h actor (gives.Take place) answer core.new) }
-    ensures none { IfOk result (λ answer. answer ≡ None → core.new ≡ core.old) }
-    ensures err { OnErr result (core.new ≡ core.old) }
-{
-    match letter {
-        Letter::Result {
-            session,
-            seq,
-            gate,
-            reply,
-        } => Ok(core.reply_with(place, session, seq, gate, reply)),
-        other => take(core, place, &other),
     }
 }
 

@@ -1,5 +1,6 @@
 //! What a settler does for an act.
 ghost use Rattle.std.specs.Prelude.{◌≡◌, None, Some, IfOk, OnErr};
+ghost use Rattle.std.specs.Option.{option_map};
 ghost use Rattle.ov_topology.specs.declared.actor.Actor as actors;
 ghost use Rattle.ov_history.specs.Past.{History};
 ghost use Rattle.ov_history.specs.May.{Setting, Lawful};
@@ -23,43 +24,21 @@ pub(super) fn act(
     core: &mut SettlerCore,
     alloc: Global,
     act: Act,
-    letter: Option<Letter>,
+    letter: Option<&Letter>,
 ) -> Result<Option<Entry>, Memory>
-    ensures does { IfOk result (λ answer. (t : Setting) (h : History) (actor : actors.Actor) → Lawful t h → IsSettler t h actor core.old → letter ≡ letter_for t.topology h (act_in act) → Does IsSettler t h actor (act_in act) answer core.new) }
+    ensures does { IfOk result (λ answer. (t : Setting) (h : History) (actor : actors.Actor) → Lawful t h → IsSettler t h actor core.old → option_map (λ one. one.now) letter.entry ≡ letter_for t.topology h (act_in act) → Does IsSettler t h actor (act_in act) answer core.new) }
     ensures none { IfOk result (λ answer. answer ≡ None → core.new ≡ core.old) }
     ensures err { OnErr result (core.new ≡ core.old) }
 {
     match act {
         Act::Take { place } => match letter {
-            Some(letter) => take_letter(core, place, letter),
+            Some(letter) => take(core, place, letter),
             None => Ok(None),
         },
         Act::Ask { mode } => core.ask(mode),
         Act::Settle => settle(core, alloc),
         Act::Stop => Ok(core.stop()),
         Act::Begin { .. } | Act::Publish { .. } => Ok(None),
-    }
-}
-
-/// Takes the letter at the place, with its entry, into which what the letter holds is moved. None exactly where the settler gives none.
-fn take_letter(
-    core: &mut SettlerCore,
-    place: Place,
-    letter: Letter,
-) -> Result<Option<Entry>, Memory>
-    ensures does { IfOk result (λ answer. (t : Setting) (h : History) (actor : actors.Actor) → Lawful t h → IsSettler t h actor core.old → letter_at t.topology h place ≡ Some letter → Does IsSettler t h actor (gives.Take place) answer core.new) }
-    ensures none { IfOk result (λ answer. answer ≡ None → core.new ≡ core.old) }
-    ensures err { OnErr result (core.new ≡ core.old) }
-{
-    match letter {
-        Letter::Answer {
-            settler,
-            round,
-            centre,
-            part,
-            items,
-        } => core.take_items(place, settler, round, centre, part, items),
-        other => take(core, place, &other),
     }
 }
 

@@ -2,16 +2,15 @@
 ghost use Rattle.std.specs.Prelude.{◌≡◌, ◌<◌, ◌↔◌, length, IfOk, IsTrue, OnErr};
 ghost use Rattle.ov_follow.specs.Lines as lines;
 ghost use Rattle.ov_history.specs.Gives.{gives};
-ghost use Rattle.ov_history.specs.Cores.{letter_for};
 ghost use Rattle.ov_world.specs.Acts.{act_in, line_in};
 ghost use Rattle.ov_world.specs.Holds.{Holds};
 ghost use Rattle.ov_world.specs.World.{setting_of, grown};
 
 use super::World;
 use crate::act::Act;
+use crate::delivered::{keep_letter, kept_letter};
 use crate::line::{Line, line_of};
 use ov_base::{Memory, push_within};
-use ov_event::Letter;
 use ov_script::Step;
 use ov_topology::Actor;
 
@@ -40,21 +39,14 @@ impl World {
         ensures holds { Holds (setting_of self.new) self.new.history }
     {
         self.assure();
-        let letter = self.letter_for(line.act)?;
-        let grew = self.perform(line.actor, line.act, letter)?;
+        let grew = self.perform(line.actor, line.act)?;
         self.assure();
         Ok(grew)
     }
 
     /// Has an actor do what it is asked to do. True exactly where it gives an entry, which the history then gains; else, and on an error,
-    /// the world is as it was. Condition: the letter is the history's letter that the act takes.
-    pub(super) fn perform(
-        &mut self,
-        actor: Actor,
-        act: Act,
-        letter: Option<Letter>,
-    ) -> Result<bool, Memory>
-        requires { letter ≡ letter_for self.old.topology self.old.history (act_in act) }
+    /// the world is as it was.
+    pub(super) fn perform(&mut self, actor: Actor, act: Act) -> Result<bool, Memory>
         ensures gives { IfOk result (λ grew. self.new ≡ grown (gives (setting_of self.old) self.old.history actor (act_in act)) self.old) }
         ensures grew { IfOk result (λ grew. IsTrue grew ↔ (length self.old.history < length self.new.history)) }
         ensures err { OnErr result (self.new ≡ self.old) }
@@ -64,6 +56,9 @@ impl World {
         };
         let alloc = *self.entries.allocator();
         self.entries.reserve(1)?;
+        let entries = self.entries.as_slice();
+        keep_letter(alloc, &self.topology, entries, act, &mut self.last)?;
+        let letter = kept_letter(&self.last, act);
         let core = &mut self.cores[number as usize];
         match core.act(alloc, self.script.roster(), act, letter)? {
             None => Ok(false),

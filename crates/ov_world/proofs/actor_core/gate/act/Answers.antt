@@ -15,8 +15,8 @@ returns-in-Begin-clause-does c = rw c.in-Begin.is (IfOk-weaker c.begin.result _ 
     (says t h actor same is)) c.begin.ensures.steps)
 
 pub returns-in-Some-clause-does : goal.returns-in-Some-clause-does
-returns-in-Some-clause-does c = rw (c.in-Take.is, c.in-Some.is) (IfOk-weaker c.take_letter.result _ _ (λ answer says t h actor same lawful is there.
-    says t h actor lawful is (sym there)) c.take_letter.ensures.does)
+returns-in-Some-clause-does c = rw (c.in-Take.is, c.in-Some.is) (IfOk-weaker c.take.result _ _ (λ answer says t h actor same lawful is there.
+    says t h actor lawful is (sym there)) c.take.ensures.does)
 
 pub returns-in-Publish-clause-does : goal.returns-in-Publish-clause-does
 returns-in-Publish-clause-does c = rw c.in-Publish.is (λ t h actor same lawful is none.

@@ -8,8 +8,8 @@ use Rattle.ov_world.proofs.Acting.{one_passes, does_where}
 use Rattle.ov_world.proofs.actor_core.node.act.Goals as goal
 
 pub returns-in-Some-clause-does : goal.returns-in-Some-clause-does
-returns-in-Some-clause-does c = rw (c.in-Take.is, c.in-Some.is) (IfOk-weaker c.take_letter.result _ _ (λ answer says t h actor is there.
-    says t h actor is (sym there)) c.take_letter.ensures.does)
+returns-in-Some-clause-does c = rw (c.in-Take.is, c.in-Some.is) (IfOk-weaker c.take.result _ _ (λ answer says t h actor is there.
+    says t h actor is (sym there)) c.take.ensures.does)
 
 pub returns-in-Stop-clause-does : goal.returns-in-Stop-clause-does
 returns-in-Stop-clause-does c = rw c.in-Stop.is (λ t h actor is none.

@@ -9,8 +9,8 @@ use Rattle.ov_world.proofs.ActingSettlers.{asks_passes}
 use Rattle.ov_world.proofs.actor_core.settler.act.Goals as goal
 
 pub returns-in-Some-clause-does : goal.returns-in-Some-clause-does
-returns-in-Some-clause-does c = rw (c.in-Take.is, c.in-Some.is) (IfOk-weaker c.take_letter.result _ _ (λ answer says t h actor lawful is there.
-    says t h actor lawful is (sym there)) c.take_letter.ensures.does)
+returns-in-Some-clause-does c = rw (c.in-Take.is, c.in-Some.is) (IfOk-weaker c.take.result _ _ (λ answer says t h actor lawful is there.
+    says t h actor lawful is (sym there)) c.take.ensures.does)
 
 pub returns-in-Ask-clause-does : goal.returns-in-Ask-clause-does
 returns-in-Ask-clause-does c = rw c.in-Ask.is (IfOk-weaker c.ask.result _ _ (λ answer says t h actor lawful is none.

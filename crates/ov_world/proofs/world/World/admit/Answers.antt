@@ -10,16 +10,16 @@ pub returns-clause-may : goal.returns-clause-may
 returns-clause-may c =
     let w = c.args.self.now in
     let e = c.args.entry.now in
-    let may : May (setting_of w) w.history e = c.in_ok-may_follow.ensures.0 c.if-not-branch.false in
-    let gave : c.perform.new.self ≡ grown (gives (setting_of w) w.history e.actor (act_of e.kind)) w = rw c.act_of-act.ensures at c.in_ok-admitted.ensures.gives in
-    let more = given_grows (setting_of w) w.history e c.in_ok-admitted.admitted c.assure.ensures.lawful.0 may (rw gave at c.in_ok-admitted.ensures.grew) in
+    let may : May (setting_of w) w.history e = c.in_ok-may_follow.ensures.may.0 c.if-not-branch.false in
+    let gave : c.perform.new.self ≡ grown (gives (setting_of w) w.history e.actor (act_of e.kind)) w = rw (c.act_of-act.ensures, c.in_ok-may_follow.ensures.same) at c.in_ok-admitted.ensures.gives in
+    let more = given_grows (setting_of w) w.history e c.in_ok-admitted.admitted c.assure.ensures.lawful.0 may (rw (gave, c.in_ok-may_follow.ensures.same) at c.in_ok-admitted.ensures.grew) in
     (λ is. may, λ is. more.0)
 
 pub returns-clause-admit : goal.returns-clause-admit
 returns-clause-admit c =
     let w = c.args.self.now in
     let e = c.args.entry.now in
-    let may : May (setting_of w) w.history e = c.in_ok-may_follow.ensures.0 c.if-not-branch.false in
-    let gave : c.perform.new.self ≡ grown (gives (setting_of w) w.history e.actor (act_of e.kind)) w = rw c.act_of-act.ensures at c.in_ok-admitted.ensures.gives in
-    let more = given_grows (setting_of w) w.history e c.in_ok-admitted.admitted c.assure.ensures.lawful.0 may (rw gave at c.in_ok-admitted.ensures.grew) in
+    let may : May (setting_of w) w.history e = c.in_ok-may_follow.ensures.may.0 c.if-not-branch.false in
+    let gave : c.perform.new.self ≡ grown (gives (setting_of w) w.history e.actor (act_of e.kind)) w = rw (c.act_of-act.ensures, c.in_ok-may_follow.ensures.same) at c.in_ok-admitted.ensures.gives in
+    let more = given_grows (setting_of w) w.history e c.in_ok-admitted.admitted c.assure.ensures.lawful.0 may (rw (gave, c.in_ok-may_follow.ensures.same) at c.in_ok-admitted.ensures.grew) in
     rw more.0 (gave ∙ ap (λ (history : History). record w { history = history }) more.1)
