@@ -12,10 +12,11 @@ For twice the commands the cost may be 2.2 times as much, and that of the rounds
 the time of one million scattered inserts into a BTreeMap of plain Rust (unit.rs), taken in the same run.
 """
 import os
-import random
 import subprocess
 import sys
 import tempfile
+
+import works
 
 HERE = os.path.dirname(os.path.abspath(__file__))
 CRATE = os.path.join(os.path.dirname(HERE), "crates", "ov_bench")
@@ -24,36 +25,16 @@ RUNS = 9
 TIMES = 3
 MOST_GROWTH = 2.2
 MOST_BESIDE = 1.15
-TOPOLOGY = "centres = 3\npartitions = 8\ngateways = [%s]\nwrite = 2\nread = 2\n"
-
-
-def command(draw, kind):
-    """The parts of a command of one of five kinds, on keys that are all different."""
-    one, two, three = (f"key{number:02}" for number in draw.sample(range(97), 3))
-    if kind == 0:
-        return f"do put {one} {draw.randrange(1000)} ; put {two} 7 ; get {three}"
-    if kind == 1:
-        return f"do move {one} {two} {draw.randrange(1, 60)} ; get {one} ; add {three} 1"
-    if kind == 2:
-        return f"do add {one} {draw.randrange(1, 100)} ; greatest {two} 50 ; del {three}"
-    if kind == 3:
-        return f"do get {one} ; get {two} ; put {three} {draw.randrange(500)}"
-    return f"snap {one} {two}"
 
 
 def work(folder, name, gateways, sessions, commands):
     """Writes a topology and a script into the folder; their names."""
-    draw = random.Random(7)
     topology = os.path.join(folder, name + ".toml")
     script = os.path.join(folder, f"{name}.{commands}")
     with open(topology, "w") as file:
-        file.write(TOPOLOGY % ", ".join(str(gateway % 3) for gateway in range(gateways)))
+        file.write(works.Topology(3, gateways, 2, 2).text())
     with open(script, "w") as file:
-        for session in range(sessions):
-            file.write(f"session s{session} g{session % gateways}\n")
-        for place in range(commands):
-            kind = 4 if place % 17 == 3 else place % 4
-            file.write(f"s{place % sessions} {command(draw, kind)}\n")
+        file.write(works.script(gateways, sessions, commands))
     return [topology, script]
 
 
