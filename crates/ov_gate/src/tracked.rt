@@ -101,23 +101,24 @@ impl Tracked {
     fn some_quorum_lacks(&self, topology: &Topology) -> bool
         ensures { result ≡ lacks_quorum_of topology.now self.now.touched self.now.acked }
     {
-        let mut lacks = false;
         for part in 0..topology.partitions() {
-            lacks = self.touched.has(part) && self.votes(topology, part) < topology.write()
-                || lacks;
+            if self.touched.has(part) && self.votes(topology, part) < topology.write() {
+                return true;
+            }
         }
-        lacks
+        false
     }
 
     /// Whether some touched partition has not acknowledged it from all its nodes.
     fn some_copy_lacks(&self, topology: &Topology) -> bool
         ensures { result ≡ lacks_copies_of topology.now self.now.touched self.now.acked }
     {
-        let mut lacks = false;
         for part in 0..topology.partitions() {
-            lacks = self.touched.has(part) && !self.is_acked_by_all(topology, part) || lacks;
+            if self.touched.has(part) && !self.is_acked_by_all(topology, part) {
+                return true;
+            }
         }
-        lacks
+        false
     }
 
     /// The votes of the centres whose nodes of the partition have acknowledged it.
@@ -138,10 +139,11 @@ impl Tracked {
         requires { part < 8 }
         ensures { result ≡ all_below (is_acked self.now.acked part) topology.now.centres }
     {
-        let mut all = true;
         for centre in 0..topology.centres() {
-            all = self.acked.has(centre * 8 + part) && all;
+            if !self.acked.has(centre * 8 + part) {
+                return false;
+            }
         }
-        all
+        true
     }
 }

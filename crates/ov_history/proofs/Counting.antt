@@ -39,6 +39,16 @@ none_passes f (suc n) each =
     let rest : any_below f n ≡ false = none_passes f n (λ p less. each p (omega (arith, less))) in
     grind (arith, common_steps)
 
+-- where one passes, some does
+pub some_passes : (f : ℕ → Bool) (n p : ℕ) → p < n → f p ≡ true → any_below f n ≡ true
+some_passes f zero p less passes = absurd (omega arith)
+some_passes f (suc n) p less passes = grind (arith, common_steps, some_passes f n p)
+
+-- where one fails, not all pass
+pub not_all_pass : (f : ℕ → Bool) (n p : ℕ) → p < n → f p ≡ false → all_below f n ≡ false
+not_all_pass f zero p less fails = absurd (omega arith)
+not_all_pass f (suc n) p less fails = grind (arith, common_steps, not_all_pass f n p)
+
 -- none passes where none passed a test that is no stronger
 pub none_less : (f g : ℕ → Bool) (n : ℕ) → ((p : ℕ) → f p ≡ false → g p ≡ false) → any_below f n ≡ false → any_below g n ≡ false
 none_less f g zero less none = refl

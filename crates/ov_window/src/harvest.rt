@@ -3,7 +3,7 @@ ghost use Rattle.std.specs.Prelude.{◌≡◌, ◌<◌, ◌≤◌, not, true, fa
 ghost use Rattle.ov_window.specs.Harvest.{IsComplete, IsEnough, IsWhole, fresh, has_answered, joined, with_answer};
 
 use crate::round::Round;
-use ov_base::{Memory, Plain, Shared};
+use ov_base::{Memory, Shared, copied};
 use ov_functor::Item;
 use ov_topology::{Mode, Topology};
 use std::alloc::Global;
@@ -172,15 +172,4 @@ fn unmarked(alloc: Global, partitions: u32, centres: u32) -> Result<Vec<Vec<bool
         marks.push(centre_marks)?;
     }
     Ok(marks)
-}
-
-/// Copies of the items.
-fn copied(alloc: Global, items: &[Item]) -> Result<Vec<Item>, Memory>
-    ensures { IfOk result (λ copies. copies.items ≡ items.now) }
-{
-    let mut copies = Vec::with_capacity(alloc, items.len())?;
-    for item in items {
-        copies.push(item.copy()?)?;
-    }
-    Ok(copies)
 }

@@ -60,7 +60,7 @@ pub(super) fn valued(
 ) -> Result<Sequence<Valued>, Memory>
     ensures { IfOk result (λ all. all ≡ valued_tasks tasks.now values.now) }
 {
-    let mut all = Sequence::new(alloc);
+    let mut all = Sequence::with_capacity(alloc, tasks.len())?;
     let mut rest = tasks;
     let mut left = values;
     while let [task, later @ ..] = rest {
