@@ -49,7 +49,7 @@ use Rattle.std.proofs.lemmas.Bool.{or_right}
 use Rattle.ov_complete.proofs.Gives.{give_results, give_replies}
 use Rattle.ov_complete.proofs.Keeping.{run_all, keeps, makes}
 use Rattle.ov_complete.proofs.Listed.{takes_letter, in_gather, in_running, in_can}
-use Rattle.ov_complete.proofs.Sessions.{event_under}
+use Rattle.ov_laws.proofs.Sessions.Order.{event_under}
 
 -- ---- the session of a command at its gateway
 

@@ -18,7 +18,7 @@ use Rattle.ov_history.specs.May.{Setting, MayStart, GateGuard, NodeGuard, Settle
 use Rattle.ov_history.proofs.Sessions.{of_itself}
 use Rattle.ov_follow.specs.Calm.{count, commands}
 use Rattle.ov_complete.proofs.Gives.{begins_command}
-use Rattle.ov_complete.proofs.Sessions.{plan_once, of_another}
+use Rattle.ov_follow.proofs.Replies.{plan_once, of_another}
 
 -- whether an entry begins a command of the session
 abbrev begins_in : ℕ → Kind → Bool

@@ -47,12 +47,15 @@ use Rattle.ov_follow.specs.Calm.{passed}
 use Rattle.ov_complete.specs.Facts.{Runs, HasBegun}
 use Rattle.ov_complete.specs.Order.{command_at, Comes, IsOrder, AllAnswered}
 use Rattle.ov_complete.specs.Stable.{Stable, GiveOnly, is_beginning}
-use Rattle.ov_complete.proofs.Finding.{some_found, all_among, among_split, followed_behind, give_parts}
+use Rattle.ov_complete.proofs.Finding.{some_found, all_among, among_split, give_parts}
+use Rattle.ov_follow.proofs.Following.{followed_behind}
 use Rattle.ov_complete.proofs.General.{tally_lines, stable_runs, taking_stops, taking_moves}
 use Rattle.ov_complete.proofs.Gives.{give_tolds, give_begins, begins_command}
 use Rattle.ov_complete.proofs.Keeping.{run_next, run_all, keeps_line, keeps, makes}
 use Rattle.ov_complete.proofs.Listed.{takes_letter, in_gather, in_each, in_running, in_can}
-use Rattle.ov_complete.proofs.Sessions.{event_under, of_another, begun_older, begun_newest, stands, found_reply, replied_there}
+use Rattle.ov_follow.proofs.Replies.{of_another}
+use Rattle.ov_laws.proofs.Sessions.Order.{event_under}
+use Rattle.ov_complete.proofs.Sessions.{begun_older, begun_newest, stands, found_reply, replied_there}
 use Rattle.ov_complete.proofs.Few.{begins_few}
 
 -- ---- what stays

@@ -99,11 +99,6 @@ recursion_at P (x ∷ xs) (suc i) d all less = recursion_at P xs i d all.1 (omeg
 
 -- ---- lines
 
--- lines behind lines
-pub followed_behind : (t : Setting) (h : History) (first others : List Line) → followed_all t h (first ++ others) ≡ followed_all t (followed_all t h first) others
-followed_behind t h [] others = refl
-followed_behind t h (line ∷ first) others = followed_behind t (followed t h line) first others
-
 -- what lines give, their first ones give and those behind
 pub give_parts : (t : Setting) (test : Entry → Bool) (first others : List Line) → GiveOnly t test (first ++ others) → GiveOnly t test first × GiveOnly t test others
 give_parts t test [] others gives = (tt, gives)

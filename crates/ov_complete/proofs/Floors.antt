@@ -20,6 +20,7 @@ use Rattle.ov_history.specs.Sessions.{events_in, events_of}
 use Rattle.ov_history.specs.Settlers.{Round, open_round, settled, raised, upper_end, known_below}
 use Rattle.ov_history.proofs.Past.{lawful_at, lawful_before}
 use Rattle.ov_laws.specs.Entries.{began_by}
+use Rattle.ov_laws.proofs.Sessions.Order.{look_floor}
 use Rattle.ov_laws.specs.Runs.{IsRun}
 use Rattle.ov_laws.proofs.History.Earlier.{letter_at}
 use Rattle.ov_laws.proofs.History.Sent.{result_sent}
@@ -115,11 +116,6 @@ floor_under t (e ∷ h) g s run =
     by rest (Gate f) kind may = by_gate rest (f == g) f kind refl may
     by rest (Node c p) kind may = rest
     by rest (Settler c) kind may = rest
-
--- a snapshot that began has the floor of its session then
-look_floor : (h : History) (g s : ℕ) (command : Command) (least : ℕ) (keys : List (List ℕ)) → StartsAs h g s command (Look least keys) → least ≡ floor s (events_of g h)
-look_floor h g s (commands.Transact parts) least keys starts = absurd starts
-look_floor h g s (commands.Snap list) least keys starts = starts.1
 
 -- the floor of a snapshot is at most what the settler of its gateway's centre has settled
 pub floor_settled : (t : Setting) (h : History) (k g s c least : ℕ) (keys : List (List ℕ)) → IsRun t h

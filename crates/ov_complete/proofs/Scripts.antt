@@ -16,6 +16,8 @@ use Rattle.ov_session.specs.declared.planned.Planned.{Planned}
 use Rattle.ov_session.specs.declared.plan.SessionPlan.{SessionPlan}
 use Rattle.ov_session.specs.declared.roster.Roster.{Roster}
 use Rattle.ov_script.specs.Sessions.{sessions_of, names_of, place_in, or_first, number_in, command_by, counted, commands_in, plan_by, waiting_by, names_by, waiting_from, planned_from, planned_of, waiting_of, plan_of, roster_of, command_at, order_by, order_from, order_of}
+use Rattle.ov_script.proofs.Bounds.{passed}
+use Rattle.ov_script.proofs.Adding.{is_none}
 use Rattle.ov_script.specs.Faults.{is_declared, fault_of}
 use Rattle.ov_script.specs.Script.{Content, Follow, IsScript}
 use Rattle.ov_script.specs.Written.{command_line, Apart}
@@ -34,11 +36,6 @@ use Rattle.ov_functor.proofs.Among.{among_front, among_back}
 
 -- ---- tests that found no fault
 
--- a choice that gave nothing where the one gives something
-passed : {A : Type 0} (b : Bool) (x : A) (o : Option A) → ◌≡◌ {A = Option A} (cond b (Some x) o) None → (b ≡ false) × (o ≡ None)
-passed true x o e = absurd cc
-passed false x o e = (refl, e)
-
 -- and one that gave nothing where the other gives something
 chosen : {A : Type 0} (b : Bool) (o : Option A) (x : A) → ◌≡◌ {A = Option A} (cond b o (Some x)) None → b ≡ true
 chosen true o x e = refl
@@ -56,10 +53,6 @@ below a b e = elim (leb_tells a b) [ inl p ↦ let bad : true ≡ false = sym p.
 there : {A : Type 0} (o : Option A) → is_some o ≡ true → (x : A) × (o ≡ Some x)
 there None e = absurd cc
 there (Some x) e = (x, refl)
-
-not_there : {A : Type 0} (o : Option A) → is_some o ≡ false → o ≡ None
-not_there None e = refl
-not_there (Some x) e = absurd cc
 
 -- ---- lines before and behind
 
@@ -117,7 +110,7 @@ apart_all gateways before (line ∷ lines) follow apart =
     (apart_all gateways (before ++ line ∷ []) lines follow.2 (subst Apart (sym (names_more before line)) (by line follow.1)))
   where
     by : (line : ScriptLine) → fault_of gateways before line ≡ None → Apart (names_by (names_of before) line)
-    by (Session name gate) none = apart_more (names_of before) name apart (not_there (place_in name (names_of before)) (passed (is_declared name before) _ _ none).0)
+    by (Session name gate) none = apart_more (names_of before) name apart (is_none (place_in name (names_of before)) (passed (is_declared name before) _ _ none).0)
     by (Do session parts) none = subst Apart (sym (append-nil (names_of before))) apart
     by (Snap session keys) none = subst Apart (sym (append-nil (names_of before))) apart
     by (After session other seq) none = subst Apart (sym (append-nil (names_of before))) apart

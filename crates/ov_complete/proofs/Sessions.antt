@@ -24,40 +24,12 @@ use Rattle.ov_follow.specs.Passes.{is_replied}
 use Rattle.ov_laws.specs.Entries.{RepliedAt, began_by, replied_by}
 use Rattle.ov_laws.proofs.History.Earlier.{at_newest}
 use Rattle.ov_laws.proofs.History.Gathered.{greatest_grows}
+use Rattle.ov_follow.proofs.Replies.{plan_once, of_another}
+use Rattle.ov_laws.proofs.Sessions.Order.{event_under}
 use Rattle.ov_complete.specs.Facts.{HasBegun}
 use Rattle.ov_complete.proofs.Finding.{some_found}
 
 -- ---- what events tell
-
--- what the event of a gateway's entry tells is at most the greatest of that gateway
-pub event_under : (f : Event → ℕ) (g : ℕ) (h : History) (k : ℕ) (kind : Kind) (event : Event) → at h k ≡ Some (record { actor = Gate g; kind = kind }) → events_in kind ≡ event ∷ []
-    → f event ≤ greatest f (events_of g h)
-event_under f g [] k kind event there is = absurd cc
-event_under f g (e ∷ h) k kind event there is = by (k == length h + 1) there (event_under f g h k kind event)
-  where
-    mine : (b : Bool) → b ≡ true → f event ≤ greatest f ((if b then events_in kind else []) ++ events_of g h)
-    mine true own = rw is (grind arith)
-    mine false own = absurd cc
-
-    by : (b : Bool) → (if b then Some e else at h k) ≡ Some (record { actor = Gate g; kind = kind })
-        → (at h k ≡ Some (record { actor = Gate g; kind = kind }) → events_in kind ≡ event ∷ [] → f event ≤ greatest f (events_of g h)) → f event ≤ greatest f (events_of g (e ∷ h))
-    by true same rest =
-        let newest : ◌≡◌ {A = Entry} e (record { actor = Gate g; kind = kind }) = cc in
-        subst (λ (one : Entry). f event ≤ greatest f (events_of g (one ∷ h))) (sym newest) (mine (g == g) (eq-eqb g g refl))
-    by false same rest =
-        let old : f event ≤ greatest f (events_of g h) = rest same is in
-        let more : greatest f (events_of g h) ≤ greatest f (events_by g e ++ events_of g h) = greatest_grows f (events_by g e) (events_of g h) in
-        omega (arith, old, more)
-
--- a number of another session does not count
-pub of_another : (s other n : ℕ) → (other == s) ≡ false → of_session s other n ≡ 0
-of_another s other n differs = rw differs refl
-
--- a session has one plan
-pub plan_once : (plans : List SessionPlan) (s : ℕ) (plan other : SessionPlan) → slice_get plans s ≡ Some plan → slice_get plans s ≡ Some other → plan ≡ other
-plan_once plans s plan other one two =
-    let both : ◌≡◌ {A = Option SessionPlan} (Some plan) (Some other) = sym one ∙ two in
-    cc
 
 -- ---- commands that began, and replies
 

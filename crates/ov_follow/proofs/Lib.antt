@@ -3,3 +3,4 @@ pub mod Lawful
 pub mod AllKinds
 pub mod Replies
 pub mod Rounds
+pub mod Following

@@ -39,7 +39,7 @@ record IsWithin (events : List Event) (s count : ℕ) (plan : SessionPlan) : Typ
   planned : begun s events ≤ length plan.planned
 
 -- a session has one plan
-plan_once : (plans : List SessionPlan) (s : ℕ) (plan other : SessionPlan) → slice_get plans s ≡ Some plan → slice_get plans s ≡ Some other → plan ≡ other
+pub plan_once : (plans : List SessionPlan) (s : ℕ) (plan other : SessionPlan) → slice_get plans s ≡ Some plan → slice_get plans s ≡ Some other → plan ≡ other
 plan_once plans s plan other one two =
     let both : ◌≡◌ {A = Option SessionPlan} (Some plan) (Some other) = sym one ∙ two in
     cc
@@ -83,7 +83,7 @@ other_within past event s counted plan no_reply no_begin within = record {
 }
 
 -- a number of another session does not count
-of_another : (s other n : ℕ) → (other == s) ≡ false → of_session s other n ≡ 0
+pub of_another : (s other n : ℕ) → (other == s) ≡ false → of_session s other n ≡ 0
 of_another s other n differs = rw differs refl
 
 -- One more entry: the session's events at its gateway, and how often it is replied.

@@ -48,7 +48,8 @@ three_pass false true c x y z e = absurd cc
 three_pass false false true x y z e = absurd cc
 three_pass false false false x y z e = (refl, refl, refl)
 
-is_none : {A : Type 0} (o : Option A) → is_some o ≡ false → o ≡ None
+-- what is not there is nothing
+pub is_none : {A : Type 0} (o : Option A) → is_some o ≡ false → o ≡ None
 is_none None e = refl
 is_none (Some x) e = absurd cc
 

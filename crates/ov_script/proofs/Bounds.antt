@@ -16,7 +16,7 @@ use Rattle.ov_script.proofs.OneMore.{names_more, planned_count, order_more, coun
 use Rattle.ov_script.proofs.Saying.{plain_names}
 
 -- a choice that gave nothing where the one gives something
-passed : {A : Type 0} (b : Bool) (x : A) (o : Option A) → ◌≡◌ {A = Option A} (cond b (Some x) o) None → (b ≡ false) × (o ≡ None)
+pub passed : {A : Type 0} (b : Bool) (x : A) (o : Option A) → ◌≡◌ {A = Option A} (cond b (Some x) o) None → (b ≡ false) × (o ≡ None)
 passed true x o e = absurd cc
 passed false x o e = (refl, e)
 

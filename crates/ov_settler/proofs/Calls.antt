@@ -1,5 +1,5 @@
 -- The calls of a core, each whole: what it returns is given, and the core then stands for the longer history.
-use Rattle.std.proofs.Common.{◌≡◌, ℕ, ◌<◌, max, true, false, Some, List, length, refl, sym, ◌∙◌, arith}
+use Rattle.std.proofs.Common.{◌≡◌, ℕ, ◌<◌, true, false, Some, List, length, refl, sym, ◌∙◌}
 use Rattle.ov_gossip.specs.Marks.{mark_at, greater}
 use Rattle.ov_gossip.specs.declared.marks.Marks.{Marks}
 use Rattle.ov_gossip.proofs.Greater.{greater_swap}

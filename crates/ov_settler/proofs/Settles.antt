@@ -3,7 +3,7 @@ use Rattle.std.proofs.Common.{◌≡◌, ℕ, zero, suc, ◌+◌, ◌<◌, ◌�
 use Rattle.std.specs.Prelude.{if◌then◌else◌, nat_le, nat_lt}
 use Rattle.std.specs.List.{AllByRecursion}
 use Rattle.std.specs.Option.{option_map}
-use Rattle.std.proofs.lemmas.Bool.{cases_Bool, and_parts, leb-true, ltb-true}
+use Rattle.std.proofs.lemmas.Bool.{and_parts, leb-true, ltb-true}
 use Rattle.std.proofs.lemmas.List.{take_all, take_more}
 use Rattle.ov_base.specs.declared.value.Value.{Value}
 use Rattle.ov_base.specs.declared.value.Value.TheVariants.{Absent}
@@ -14,7 +14,6 @@ use Rattle.ov_functor.specs.declared.item.Item.{Item}
 use Rattle.ov_functor.proofs.Unions.{all_added_comes, all_added_sorted}
 use Rattle.ov_topology.specs.Shape.{Shape}
 use Rattle.ov_topology.specs.declared.actor.Actor.{Actor}
-use Rattle.ov_topology.specs.declared.actor.Actor.TheVariants.{Settler}
 use Rattle.ov_topology.specs.declared.mode.Mode.{Mode}
 use Rattle.ov_topology.specs.declared.mode.Mode.TheVariants.{Quorum, One}
 use Rattle.ov_lists.specs.Entries.{Entry, latest_of}

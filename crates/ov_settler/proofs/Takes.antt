@@ -1,5 +1,5 @@
 -- A settler that takes an answer.
-use Rattle.std.proofs.Common.{◌≡◌, ◌≢◌, ℕ, ◌<◌, ◌⊎◌, Bool, true, false, ◌==◌, ◌&&◌, ◌||◌, Some, List, [], ◌∷◌, ◌++◌, get_or, refl, sym, ap, subst, ◌∙◌, arith, inl, inr}
+use Rattle.std.proofs.Common.{◌≡◌, ◌≢◌, ℕ, ◌<◌, ◌⊎◌, Bool, true, false, ◌==◌, ◌&&◌, ◌||◌, Some, List, [], ◌∷◌, get_or, refl, sym, ap, subst, ◌∙◌, arith, inl, inr}
 use Rattle.std.specs.Prelude.{slice_set}
 use Rattle.std.specs.Option.{option_map}
 use Rattle.std.proofs.lemmas.Bool.{cases_Bool, eq-eqb, eqb-true, and_parts, false_from_ne_true}
@@ -7,7 +7,7 @@ use Rattle.std.proofs.lemmas.Bool.Decides.{eqb_tells}
 use Rattle.std.proofs.lemmas.List.{get_or-set_same, get_or-set_other}
 use Rattle.std.proofs.lemmas.Option.{same_Some}
 use Rattle.ov_base.proofs.Lists.{all_appended}
-use Rattle.ov_functor.specs.Unions.{is_inside, added, all_added}
+use Rattle.ov_functor.specs.Unions.{is_inside, all_added}
 use Rattle.ov_functor.specs.declared.item.Item.{Item}
 use Rattle.ov_topology.specs.declared.actor.Actor.{Actor}
 use Rattle.ov_topology.specs.declared.place.Place.{Place}
@@ -22,16 +22,10 @@ use Rattle.ov_history.specs.May.{Setting}
 use Rattle.ov_history.specs.Cores.{Steps}
 use Rattle.ov_window.specs.Harvest.{Gathered, IsMarked, has_answered, marks_of, with_answer}
 use Rattle.ov_window.proofs.Marks.{marked_more}
+use Rattle.ov_window.proofs.Gathering.{added_behind}
 use Rattle.ov_settler.specs.Settler.{SettlerState, Gathers, IsAnswer, IsSettler, IsSound, is_taken, round_of}
 use Rattle.ov_settler.specs.Calls.{Awaits, answered_by, gathered_by}
 use Rattle.ov_settler.proofs.Stands.{by_settler, took_more, harvest_more, nothing_more, some_steps, letter_given}
-
--- ---- items
-
--- items one behind another are added one after another
-added_behind : (xs ys items : List Item) → all_added (xs ++ ys) items ≡ all_added ys (all_added xs items)
-added_behind [] ys items = refl
-added_behind (x ∷ xs) ys items = added_behind xs ys (added x items)
 
 -- ---- one more answer
 

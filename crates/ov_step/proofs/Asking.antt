@@ -25,6 +25,7 @@ use Rattle.ov_follow.specs.Passes.{each, only, running}
 use Rattle.ov_world.specs.World.{WorldState, setting_of}
 use Rattle.ov_step.specs.Followed.{Followed, with_history}
 use Rattle.ov_step.proofs.Passing.{quiet_follows, unlisted_next, listed_more, running_next}
+use Rattle.ov_script.proofs.Adding.{is_none}
 
 -- ---- lines of other settlers
 
@@ -152,11 +153,6 @@ question_more n old here new is next =
 abbrev pub settlement : Setting → History → ℕ → List Line
 settlement t h s = if is_some (settles t.topology h s) then running h (record { actor = Settler s; act = Settle }) else []
 
--- what is not there is nothing
-none_is : {A : Type 0} (o : Option A) → is_some o ≡ false → o ≡ None
-none_is None is = refl
-none_is (Some x) is = absurd cc
-
 -- the line of a settler, behind those of the lesser ones
 settlement_next : (t : Setting) (h : History) (s : ℕ)
     → followed_all t h (each (settlement t h) s ++ settlement t h s) ≡ followed t (followed_all t h (each (settlement t h) s)) (line_by Settle s)
@@ -164,7 +160,7 @@ settlement_next t h s =
     tested_next t h (each (settlement t h) s) (is_some (settles t.topology h s)) (line_by Settle s) λ none.
     stays_on (λ before. settles t.topology before s) s t h (each (settlement t h) s) (settles_stay t.topology s)
     (others_below s h (λ k. is_some (settles t.topology h k)) Settle)
-    ∙ none_is (settles t.topology h s) none
+    ∙ is_none (settles t.topology h s) none
 
 -- one settler more
 pub settlement_more : (n : ℕ) (old here new : WorldState) → Followed (each (settlement (setting_of old) old.history) n) old here

@@ -28,7 +28,8 @@ use Rattle.ov_follow.specs.Lines.{Line, begin_line, begin_of, followed, followed
 use Rattle.ov_follow.specs.Passes.{each, only, can}
 use Rattle.ov_world.specs.World.{WorldState, setting_of}
 use Rattle.ov_step.specs.Followed.{Followed, with_history}
-use Rattle.ov_step.proofs.Passing.{followed_behind, unlisted_next, listed_more}
+use Rattle.ov_follow.proofs.Following.{followed_behind}
+use Rattle.ov_step.proofs.Passing.{unlisted_next, listed_more}
 
 -- ---- one more command, of another session
 

@@ -6,7 +6,7 @@ use Rattle.ov_world.specs.Acts.{line_in}
 use Rattle.ov_world.specs.World.{WorldState, setting_of}
 use Rattle.ov_world.specs.declared.line.Line.{Line}
 use Rattle.ov_step.specs.Followed.{Followed, FollowedInPart, with_history}
-use Rattle.ov_step.proofs.Passing.{followed_behind}
+use Rattle.ov_follow.proofs.Following.{followed_behind}
 
 -- ---- lines that are followed
 

@@ -11,7 +11,7 @@ use Rattle.ov_step.specs.Followed.{Followed, FollowedInPart, with_history}
 use Rattle.ov_step.specs.Outstanding.{IsOutstanding}
 use Rattle.ov_step.specs.Parts.{Passed, IsPart, PassedInPart}
 use Rattle.ov_step.specs.declared.outstanding.Outstanding.{Outstanding}
-use Rattle.ov_step.proofs.Passing.{followed_behind}
+use Rattle.ov_follow.proofs.Following.{followed_behind}
 use Rattle.ov_step.proofs.Seeing.{GoesOn, lines_go_on}
 
 -- ---- histories that go on

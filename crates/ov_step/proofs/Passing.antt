@@ -14,14 +14,11 @@ use Rattle.ov_history.specs.Gives.{acts, gives}
 use Rattle.ov_history.specs.Cores.{onto}
 use Rattle.ov_follow.specs.Lines.{Line, followed, followed_all}
 use Rattle.ov_follow.specs.Passes.{each, running}
+use Rattle.ov_follow.proofs.Following.{followed_behind}
 use Rattle.ov_world.specs.World.{WorldState, setting_of}
 use Rattle.ov_step.specs.Followed.{Followed, FollowedInPart, with_history}
 
--- ---- lines behind lines
-
-pub followed_behind : (t : Setting) (h : History) (first others : List Line) → followed_all t h (first ++ others) ≡ followed_all t (followed_all t h first) others
-followed_behind t h [] others = refl
-followed_behind t h (line ∷ first) others = followed_behind t (followed t h line) first others
+-- ---- lists of lines
 
 -- one number more
 pub each_more : (f : ℕ → List Line) (n : ℕ) → each f (n + 1) ≡ each f n ++ f n

@@ -35,7 +35,8 @@ use Rattle.ov_world.specs.World.{WorldState, setting_of}
 use Rattle.ov_step.specs.Followed.{Followed, FollowedInPart, with_history}
 use Rattle.ov_step.specs.Wants.{wants_in, wants_over, wants_of, is_wanting, AreWants}
 use Rattle.ov_step.specs.declared.wants.Want.{Want}
-use Rattle.ov_step.proofs.Passing.{followed_behind, unlisted_next}
+use Rattle.ov_follow.proofs.Following.{followed_behind}
+use Rattle.ov_step.proofs.Passing.{unlisted_next}
 
 -- ---- one more result, of a settler
 

@@ -36,7 +36,7 @@ use Rattle.ov_laws.specs.Entries.{began_by, replied_by}
 -- ---- what events tell
 
 -- what the event of an entry tells is at most the greatest
-event_under : (f : Event → ℕ) (g : ℕ) (h : History) (k : ℕ) (kind : Kind) (event : Event) → at h k ≡ Some (record { actor = Gate g; kind = kind }) → events_in kind ≡ event ∷ []
+pub event_under : (f : Event → ℕ) (g : ℕ) (h : History) (k : ℕ) (kind : Kind) (event : Event) → at h k ≡ Some (record { actor = Gate g; kind = kind }) → events_in kind ≡ event ∷ []
     → f event ≤ greatest f (events_of g h)
 event_under f g [] k kind event there is = absurd (cc)
 event_under f g (e ∷ h) k kind event there is = by (k == length h + 1) there (event_under f g h k kind event)
@@ -171,7 +171,7 @@ snap_above maps w n (Look least keys) list low shows above =
     omega (arith, same, under, over)
 
 -- a snapshot that began has the floor of its session then
-look_floor : (h : History) (g s : ℕ) (command : Command) (least : ℕ) (keys : List (List ℕ)) → StartsAs h g s command (Look least keys) → least ≡ floor s (events_of g h)
+pub look_floor : (h : History) (g s : ℕ) (command : Command) (least : ℕ) (keys : List (List ℕ)) → StartsAs h g s command (Look least keys) → least ≡ floor s (events_of g h)
 look_floor h g s (commands.Transact parts) least keys starts = absurd starts
 look_floor h g s (commands.Snap list) least keys starts = starts.1
 
