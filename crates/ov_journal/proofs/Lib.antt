@@ -3,6 +3,8 @@ mod LineLists
 mod LineTakes
 mod LineAgain
 mod Pieces
-mod Journals
+pub mod Journals
 mod Writing
 mod Examples
+pub mod Lawful
+pub mod Judging

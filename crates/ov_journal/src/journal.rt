@@ -127,8 +127,8 @@ fn take_first(line: u64, text: &[u8]) -> Result<(), LineError<()>>
 // ---- writing
 
 /// Writes the text of these entries, the oldest first, a put for each line. It is read back as these entries. After
-/// an error a prefix of it was written. `WriteFault` comes only where the sink's count of faults rose in this call;
-/// out of memory may always come. Condition: each entry has a line.
+/// an error a prefix of it was written. `WriteFault` comes only where the sink's count of faults rose in this call, and it
+/// rises in no other; out of memory may always come. Condition: each entry has a line.
 pub fn write_journal<K: Sink>(
     alloc: Global,
     entries: &[Entry],
@@ -139,6 +139,7 @@ pub fn write_journal<K: Sink>(
     ensures err { OnErr result (WroteFront (K.written out.old) (K.written out.new) (journal_text entries.now)) }
     ensures failed { IsErrOf result ReportError.WriteFault → Rose (K.faults out.old) (K.faults out.new) }
     ensures later { K.faults out.old ≤ K.faults out.new }
+    ensures quiet { ¬ IsErrOf result ReportError.WriteFault → K.faults out.new ≡ K.faults out.old }
     ensures again { journal_of (journal_text entries.now) ≡ Ok entries.now }
 {
     match put_text(alloc, b"oceanvista journal 1\n", out) {
@@ -153,6 +154,7 @@ fn put_entries<K: Sink>(alloc: Global, entries: &[Entry], out: &mut K) -> Result
     ensures err { OnErr result (WroteFront (K.written out.old) (K.written out.new) (lines_text entry_text entries.now)) }
     ensures failed { IsErrOf result ReportError.WriteFault → Rose (K.faults out.old) (K.faults out.new) }
     ensures later { K.faults out.old ≤ K.faults out.new }
+    ensures quiet { ¬ IsErrOf result ReportError.WriteFault → K.faults out.new ≡ K.faults out.old }
 {
     let mut line = Vec::new(alloc);
     for entry in entries {
@@ -176,6 +178,7 @@ fn put_entry<K: Sink>(
     ensures err { OnErr result (WroteFront (K.written out.old) (K.written out.new) (entry_text entry.now ++ 10 ∷ [])) }
     ensures failed { IsErrOf result ReportError.WriteFault → Rose (K.faults out.old) (K.faults out.new) }
     ensures later { K.faults out.old ≤ K.faults out.new }
+    ensures quiet { ¬ IsErrOf result ReportError.WriteFault → K.faults out.new ≡ K.faults out.old }
 {
     match end_line(entry, line) {
         Err(_) => Err(ReportError::Memory),

@@ -2,8 +2,9 @@
 //!
 //! The promise to the layers above: a text is read exactly where it is the journal of entries, and the first line off
 //! the grammar is named else; what is read is written again byte for byte, and what is written is read back as the same
-//! entries. Each line that is read is in the ranges of the grammar; whether an entry may follow those before it is not
-//! asked here.
+//! entries. Each line that is read is in the ranges of the grammar. [`audit`] judges entries: they are lawful, or the first
+//! that may not follow those before it is named. Each entry of a lawful history has a line, so that every history can be
+//! written ([`histories_have_journals`]).
 //!
 //! Start with `specs/Line.antt`, the line of an entry and the entries that have one, and `specs/Journal.antt`, the text of
 //! a journal; `specs/Read.antt` has how a line is read, `specs/Text.antt` how it is written, piece by piece.
@@ -14,16 +15,20 @@ mod error;
 mod form;
 mod gate;
 mod journal;
+mod laws;
 mod line;
 mod list;
 mod node;
 mod print;
 mod settler;
 mod start;
+mod verdict;
 mod word;
 
 pub use error::JournalError;
 pub use form::has_line;
 pub use journal::{read_journal, write_journal};
+pub use laws::histories_have_journals;
 pub use line::parse_entry;
 pub use print::print_entry;
+pub use verdict::{Verdict, audit};
