@@ -1,6 +1,7 @@
 -- What a run leaves in a story, whole or in part.
-use Rattle.std.proofs.Common.{◌≡◌, ℕ, ◌<◌, ◌^◌, List, [], ◌∷◌, ◌++◌, length, Option, Some, None, refl, sym, ap, subst, ◌∙◌, inl, inr, reverse}
-use Rattle.std.proofs.lemmas.List.{reverse-append, reverse-reverse}
+use Rattle.std.specs.List.{AllByRecursion}
+use Rattle.std.proofs.Common.{◌≡◌, ◌≢◌, arith, ℕ, ◌<◌, ◌^◌, List, [], ◌∷◌, ◌++◌, length, Option, Some, None, refl, sym, ap, subst, ◌∙◌, inl, reverse}
+use Rattle.std.proofs.lemmas.List.{length-reverse, reverse-append, reverse-reverse}
 use Rattle.ov_topology.specs.Shape.{Shape}
 use Rattle.ov_script.specs.Script.{Content}
 use Rattle.ov_script.specs.declared.step.Step.{Step}
@@ -18,8 +19,16 @@ use Rattle.ov_step.proofs.Calming.{way_none}
 use Rattle.ov_step.proofs.Driving.{drive_behind}
 use Rattle.ov_step.proofs.Parting.{goes_on_through, part_later}
 use Rattle.ov_step.proofs.Seeing.{GoesOn, lines_go_on}
-use Rattle.ov_top.specs.Ending.{IsPartOf, story_of}
-use Rattle.ov_top.specs.Headline.{IsRight, Right}
+use Rattle.ov_topology.specs.Shape.{IsShape}
+use Rattle.ov_script.specs.Script.{IsScript}
+use Rattle.ov_world.proofs.Promises.{holds}
+use Rattle.ov_journal.specs.Audit.{Judges}
+use Rattle.ov_journal.specs.Line.{HasLine}
+use Rattle.ov_journal.specs.declared.verdict.Verdict.{Verdict}
+use Rattle.ov_journal.specs.declared.verdict.Verdict.TheVariants.{Lawful, Refused}
+use Rattle.ov_journal.proofs.Lawful.{journal_lines}
+use Rattle.ov_top.specs.Ending.{IsPartOf, story_of, verdict_status}
+use Rattle.ov_top.specs.Headline.{Has, IsRight, IsShort, Right, RightOf}
 use Rattle.ov_top.proofs.Replies.{right_holds}
 
 -- ---- histories that go on
@@ -86,3 +95,27 @@ tells_part story topology script whole new tells part =
 pub tells_right : (story : Story) (topology : Shape) (script : Content) (h : History) → Tells story topology script h → Holds (setting_by topology script) h → IsRight story
 tells_right story topology script h tells holds =
     rw (tells.topology_is, tells.script_is, tells.entries_are) (subst (Right (setting_by topology script)) (sym (reverse-reverse h)) (right_holds (setting_by topology script) h holds))
+
+-- the story of a topology and a script is right
+same_right : (topology : Option Shape) (script : Option Content) (entries : List Entry) (t : Shape) (s : Content) → topology ≡ Some t → script ≡ Some s → RightOf topology script entries
+    → Right (setting_by t s) (reverse entries)
+same_right topology script entries t s a b right = rw (a, b) at right
+
+-- the headline, of a story that has this topology and this script
+pub right_has : (story : Story) (topology : Shape) (script : Content) → IsRight story → Has story topology script → Right (setting_by topology script) (reverse story.entries)
+right_has story topology script right has = same_right story.topology story.script story.entries topology script has.topology_is has.script_is right
+
+-- each entry of a run has a line
+pub run_lines : (story : Story) (topology : Shape) (script : Content) (h : History) → story ≡ story_of topology script h → IsScript script → IsRight story → IsShort story
+    → AllByRecursion HasLine story.entries
+run_lines story topology script h same form right short =
+    let has : Has story topology script = record { topology_is = ap (λ (s : Story). s.topology) same; script_is = ap (λ (s : Story). s.script) same } in
+    let few : length (reverse story.entries) < 2 ^ 64 = subst (λ (n : ℕ). n < 2 ^ 64) (sym (length-reverse story.entries)) short in
+    subst (AllByRecursion HasLine) (reverse-reverse story.entries) (journal_lines topology script (reverse story.entries) form (right_has story topology script right has).lawful few)
+
+-- the headline is true of a journal that was judged lawful
+pub judged_right : (topology : Shape) (script : Content) (entries : List Entry) (verdict : Verdict) (status : ℕ) → IsShape topology → Judges (setting_by topology script) entries verdict
+    → (status ≢ 8 → status ≢ 9 → status ≡ verdict_status verdict) → status ≡ 0 → Right (setting_by topology script) (reverse entries)
+judged_right topology script entries Lawful status shape right says zero = right_holds (setting_by topology script) (reverse entries) (holds (setting_by topology script) (reverse entries) (shape, right))
+judged_right topology script entries (Refused number) status shape right says zero =
+    absurd (let six : status ≡ 6 = says (λ h. omega (arith, h, zero)) (λ h. omega (arith, h, zero)) in omega (arith, six, zero))

@@ -1,22 +1,27 @@
 -- How a call ends, from what its halves did.
-use Rattle.std.proofs.Common.{◌≡◌, ℕ, List, [], ◌∷◌, ◌++◌, Option, Some, None, Ok, Err, refl, sym, ap, subst, ◌∙◌, inl}
+use Rattle.std.proofs.Common.{◌≡◌, ℕ, Bool, List, [], ◌∷◌, ◌++◌, reverse, Option, Some, None, refl, sym, ap, subst, ◌∙◌, inl}
+use Rattle.std.specs.Prelude.{if◌then◌else◌}
 use Rattle.ov_base.proofs.Lists.{front_of_nothing}
 use Rattle.ov_io.specs.Causes.{Wrote, WroteFront}
 use Rattle.ov_io.proofs.Sinks.{wrote_none}
 use Rattle.std.specs.Option.{option_map}
-use Rattle.ov_script.specs.Script.{IsScript}
+use Rattle.ov_topology.specs.Shape.{Shape}
+use Rattle.ov_script.specs.Script.{Content, IsScript}
+use Rattle.ov_script.specs.declared.step.Step.{Step}
+use Rattle.ov_journal.specs.Journal.{journal_text}
 use Rattle.ov_world.specs.declared.story.Story.{Story}
 use Rattle.ov_report.specs.Report.{lines_text, report_lines, report_text, story_lines}
 use Rattle.ov_top.specs.declared.prepare.Accepted.{Accepted}
 use Rattle.ov_top.specs.declared.refusal.Refusal.{Refusal}
 use Rattle.ov_top.specs.declared.refusal.Refusal.TheVariants as why
 use Rattle.ov_top.specs.Names.{Names, file_words, names_in}
-use Rattle.ov_top.specs.Ending.{Ending, IsPartOf, done, history_status, nothing, refused, report_status, run_of, usage_text}
+use Rattle.ov_top.specs.Ending.{Ending, IsPartOf, done, ended, history_status, history_text, nothing, refused, report_status, run_of, usage_text}
 use Rattle.ov_top.specs.Words.{order_of}
 use Rattle.ov_top.specs.declared.words.Order.{Order}
 use Rattle.ov_top.proofs.Reports.{lines_of_run, status_of_run}
-use Rattle.ov_top.specs.Causes.{Told, Counts, Ends, MeantBy, Puts}
-use Rattle.ov_top.specs.Reading.{Prepares, refusal_status, refusal_text}
+use Rattle.ov_top.specs.Causes.{Told, Counts, Ends, EndsAs, MeantBy, Puts}
+use Rattle.ov_top.specs.Performing.{Performs}
+use Rattle.ov_top.specs.Reading.{Accepts, Refuses, refusal_status, refusal_text}
 use Rattle.ov_top.proofs.Endings.{meant_some, nothing_is_part}
 
 -- ---- parts of stories
@@ -31,12 +36,10 @@ whole_is_part story = record { topology = inl refl; script = inl refl; both = in
 
 -- ---- ends
 
--- the text of an end that is meant was put, and the story is the one of that end
-pub ends_as_meant : (told : Told) (counts now : Counts) (names : Option Names) (end : Ending) (status count later : ℕ) (story : Story) (old new : Option (List ℕ)) → MeantBy told counts now names end
-    → story ≡ end.story → Puts end.status end.text status count later old new → Ends told counts now names status story old new
-ends_as_meant told counts now names end status count later story old new meant same puts = record {
-  end = end;
-  meant = meant;
+-- the text of an end was put, and the story is the one of that end
+pub ends_put : (end : Ending) (status count later : ℕ) (story : Story) (old new : Option (List ℕ)) → story ≡ end.story → Puts end.status end.text status count later old new
+    → EndsAs end status story old new
+ends_put end status count later story old new same puts = record {
   status_is = λ eight nine. (puts.whole eight nine).0;
   wrote = λ eight nine. (puts.whole eight nine).1;
   wrote_front = puts.front;
@@ -45,11 +48,9 @@ ends_as_meant told counts now names end status count later story old new meant s
 }
 
 -- memory ran out before anything was written
-pub ends_without_memory : (told : Told) (counts now : Counts) (names : Option Names) (end : Ending) (status : ℕ) (story : Story) (old new : Option (List ℕ)) → MeantBy told counts now names end
-    → IsPartOf story end.story → status ≡ 9 → WroteFront old new [] → Ends told counts now names status story old new
-ends_without_memory told counts now names end status story old new meant part nine front = record {
-  end = end;
-  meant = meant;
+pub ends_without_memory : (end : Ending) (status : ℕ) (story : Story) (old new : Option (List ℕ)) → IsPartOf story end.story → status ≡ 9 → WroteFront old new []
+    → EndsAs end status story old new
+ends_without_memory end status story old new part nine front = record {
   status_is = λ eight other. absurd (other nine);
   wrote = λ eight other. absurd (other nine);
   wrote_front = ([], end.text, refl, subst (Wrote old new) (front_of_nothing front.0 front.1 front.2) front.3);
@@ -66,46 +67,53 @@ meant_by_some told counts now (Some names) = meant_some told counts now names
 pub ends_before : (told : Told) (counts now : Counts) (names : Option Names) (old : Option (List ℕ)) → Ends told counts now names 9 nothing old old
 ends_before told counts now names old =
     let some = meant_by_some told counts now names in
-    ends_without_memory told counts now names some.0 9 nothing old old some.1 (nothing_is_part some.0.story) refl (wrote_none old [])
+    record { end = some.0; meant = some.1; came = ends_without_memory some.0 9 nothing old old (nothing_is_part some.0.story) refl (wrote_none old []) }
 
 -- the text of a refusal was put
 pub ends_refused : (told : Told) (counts now : Counts) (names : Names) (refusal : Refusal) (status count later : ℕ) (story : Story) (old new : Option (List ℕ))
-    → Prepares told counts now names (Err refusal) story → Puts (refusal_status refusal) (refusal_text names refusal) status count later old new
+    → Refuses told counts now names refusal story → Puts (refusal_status refusal) (refusal_text names refusal) status count later old new
     → (refusal ≡ why.Memory → status ≡ 9) → Ends told counts now (Some names) status story old new
 ends_refused told counts now names why.Memory status count later story old new p puts memory =
-    ends_without_memory told counts now (Some names) p.end status story old new p.meant p.leads (memory refl) puts.front
+    record { end = p.end; meant = p.meant; came = ends_without_memory p.end status story old new p.leads (memory refl) puts.front }
 ends_refused told counts now names (why.Failed word) status count later story old new p puts memory =
-    ends_as_meant told counts now (Some names) p.end status count later story old new p.meant (sym (ap (λ (e : Ending). e.story) p.leads)) (rw p.leads puts)
+    record { end = p.end; meant = p.meant; came = ends_put p.end status count later story old new (sym (ap (λ (e : Ending). e.story) p.leads)) (rw p.leads puts) }
 ends_refused told counts now names (why.TooLong word) status count later story old new p puts memory =
-    ends_as_meant told counts now (Some names) p.end status count later story old new p.meant (sym (ap (λ (e : Ending). e.story) p.leads)) (rw p.leads puts)
+    record { end = p.end; meant = p.meant; came = ends_put p.end status count later story old new (sym (ap (λ (e : Ending). e.story) p.leads)) (rw p.leads puts) }
 ends_refused told counts now names (why.Form fault) status count later story old new p puts memory =
-    ends_as_meant told counts now (Some names) p.end status count later story old new p.meant (sym (ap (λ (e : Ending). e.story) p.leads)) (rw p.leads puts)
+    record { end = p.end; meant = p.meant; came = ends_put p.end status count later story old new (sym (ap (λ (e : Ending). e.story) p.leads)) (rw p.leads puts) }
 
--- memory ran out in the run
-pub ends_unfinished : (told : Told) (counts now : Counts) (names : Names) (texts : Accepted) (before story : Story) (old : Option (List ℕ)) → Prepares told counts now names (Ok texts) before
-    → IsPartOf story (done texts.topology texts.script texts.schedule).story → Ends told counts now (Some names) 9 story old old
-ends_unfinished told counts now names texts before story old p part =
-    ends_without_memory told counts now (Some names) p.end 9 story old old p.meant (rw p.leads.0 part) refl (wrote_none old [])
+-- what was asked for was done with the texts that are accepted
+pub ends_performed : (told : Told) (counts now : Counts) (names : Names) (texts : Accepted) (before story : Story) (status : ℕ) (old new : Option (List ℕ))
+    → Accepts told counts now names texts before → Performs names.task texts status story old new → Ends told counts now (Some names) status story old new
+ends_performed told counts now names texts before story status old new accepts performs = record {
+  end = ended names.task performs.verdict texts.topology texts.script texts.third;
+  meant = accepts.meant performs.verdict performs.right;
+  came = performs.came;
+}
 
--- the report of the run was put
-pub ends_done : (told : Told) (counts now : Counts) (names : Names) (texts : Accepted) (before story : Story) (status count later : ℕ) (old new : Option (List ℕ))
-    → Prepares told counts now names (Ok texts) before → IsScript texts.script → story ≡ (done texts.topology texts.script texts.schedule).story
-    → Puts (report_status (story_lines story.script story.entries)) (lines_text (story_lines story.script story.entries)) status count later old new
-    → Ends told counts now (Some names) status story old new
-ends_done told counts now names texts before story status count later old new p form same puts =
-    let run = run_of texts.topology texts.script texts.schedule in
-    let here : Puts (report_status (report_lines texts.script run)) (report_text texts.script run) status count later old new =
-    rw (lines_of_run texts.topology texts.script run story same) at puts in
-    let there : Puts (history_status texts.topology texts.script run) (report_text texts.script run) status count later old new =
-    rw (status_of_run texts.topology texts.script run form) at here in
-    ends_as_meant told counts now (Some names) p.end status count later story old new p.meant (same ∙ sym (ap (λ (e : Ending). e.story) p.leads.0)) (rw p.leads.0 there)
+-- the history of the run was put
+pub ends_done : (journal : Bool) (topology : Shape) (script : Content) (schedule : List Step) (story : Story) (status count later : ℕ) (old new : Option (List ℕ))
+    → IsScript script → story ≡ (done journal topology script schedule).story
+    → Puts (report_status (story_lines story.script story.entries)) (if journal then journal_text story.entries else lines_text (story_lines story.script story.entries)) status count later old new
+    → EndsAs (done journal topology script schedule) status story old new
+ends_done journal topology script schedule story status count later old new form same puts =
+    let run = run_of topology script schedule in
+    let lines = lines_of_run topology script run story same in
+    let entries : story.entries ≡ reverse run = ap (λ (s : Story). s.entries) same in
+    let here : Puts (report_status (report_lines script run)) (if journal then journal_text (reverse run) else report_text script run) status count later old new = rw (lines, entries) at puts in
+    let there : Puts (history_status topology script run) (history_text journal script run) status count later old new = rw (status_of_run topology script run form) at here in
+    ends_put (done journal topology script schedule) status count later story old new same there
 
 -- the usage text was put
 pub ends_usage : (told : Told) (counts : Counts) (status count later : ℕ) (old new : Option (List ℕ)) → Puts 2 usage_text status count later old new
     → Ends told counts counts None status nothing old new
 ends_usage told counts status count later old new puts =
-    ends_as_meant told counts counts None (refused 2 usage_text nothing) status count later nothing old new refl refl puts
+    record { end = refused 2 usage_text nothing; meant = refl; came = ends_put (refused 2 usage_text nothing) status count later nothing old new refl puts }
 
 -- words that are no order name no files
 pub no_files : (order : Option Order) (words : List (List ℕ)) → order ≡ order_of words → order ≡ None → file_words words ≡ None
 no_files order words is none = ap (λ (o : Option Order). option_map names_in o) (sym is ∙ none)
+
+-- the files of an order are those that the words name
+pub order_files : (order : Order) (words : List (List ℕ)) → Some order ≡ order_of words → file_words words ≡ Some (names_in order)
+order_files order words is = ap (λ (o : Option Order). option_map names_in o) (sym is)

@@ -4,12 +4,13 @@ use Rattle.ov_base.specs.Word.{◌>>=◌}
 use Rattle.ov_topology.specs.Shape.{gates}
 use Rattle.ov_io.specs.Causes.{Rose, Agrees, Wrote, WroteFront}
 use Rattle.ov_world.specs.declared.story.Story.{Story}
+use Rattle.ov_journal.specs.declared.verdict.Verdict.{Verdict}
 use Rattle.ov_top.specs.declared.refusal.FileWord.{FileWord}
 use Rattle.ov_top.specs.declared.refusal.FileWord.TheVariants as word
 use Rattle.ov_top.specs.declared.refusal.FormFault.{FormFault}
 use Rattle.ov_top.specs.Names.{Names, name_at}
 use Rattle.ov_top.specs.Form.{accept_topology, accept_script}
-use Rattle.ov_top.specs.Ending.{Files, Ending, IsPartOf, at_topology, limit, nothing, read_fault_text, refused, story_of, usage_text, with_topology}
+use Rattle.ov_top.specs.Ending.{Files, Ending, IsPartOf, IsVerdict, at_topology, limit, nothing, read_fault_text, refused, story_of, usage_text, with_topology}
 
 -- what a shelf tells of each name
 abbrev pub Told : Type 0
@@ -23,29 +24,36 @@ Counts = List ℕ → ℕ
 pub record Agree (told : Told) (names : Names) (files : Files) : Type 0 where
   pub topology : Agrees (told names.topology) files.topology
   pub script : Agrees (told names.script) files.script
-  pub schedule : Agrees (told names.schedule) files.schedule
+  pub third : Agrees (told names.third) files.third
 
 -- ---- what is meant
 
--- By the order of work the command ends so, for files that agree with what is told.
+-- By the order of work the command ends so, for files that agree with what is told, and the right verdict on the journal.
 pub record Comes (told : Told) (names : Names) (end : Ending) : Type 0 where
   pub files : Files
   pub agree : Agree told names files
-  pub is : at_topology names files ≡ end
+  pub verdict : Verdict
+  pub right : IsVerdict names files verdict
+  pub is : at_topology names files verdict ≡ end
 
--- a file within the limit is accepted
-abbrev pub passes : {A : Type 0} → List ℕ → Result A FormFault → Option A
-passes bytes (Ok value) = if nat_le (length bytes) limit then Some value else None
-passes bytes (Err fault) = None
+-- a file within its limit is accepted
+abbrev pub passes : {A : Type 0} → FileWord → List ℕ → Result A FormFault → Option A
+passes which bytes (Ok value) = if nat_le (length bytes) (limit which) then Some value else None
+passes which bytes (Err fault) = None
+
+-- the story where the order of work comes to the third file
+abbrev pub reached_third : Files → Option Story
+reached_third files = do
+  topology ← passes word.Topology files.topology (accept_topology files.topology)
+  script ← passes word.Script files.script (accept_script (gates topology) files.script)
+  Some (story_of topology script [])
 
 -- the story where the order of work comes to this file
 abbrev pub reached : FileWord → Files → Option Story
 reached word.Topology files = Some nothing
-reached word.Script files = passes files.topology (accept_topology files.topology) >>= λ topology. Some (with_topology topology)
-reached word.Schedule files = do
-  topology ← passes files.topology (accept_topology files.topology)
-  script ← passes files.script (accept_script (gates topology) files.script)
-  Some (story_of topology script [])
+reached word.Script files = passes word.Topology files.topology (accept_topology files.topology) >>= λ topology. Some (with_topology topology)
+reached word.Schedule files = reached_third files
+reached word.Journal files = reached_third files
 
 -- A read has failed: the order of work came to a file word, and the count of that name rose.
 pub record Faulted (told : Told) (counts now : Counts) (names : Names) (end : Ending) : Type 0 where
@@ -68,16 +76,20 @@ MeantBy told counts now (Some names) end = Meant told counts now names end
 
 -- ---- what was done
 
--- How a call ended: as it was meant to, unless the sink failed (8) or memory ran out (9). In any case a prefix of the text that was meant was written;
+-- A call that was meant to end so did, unless the sink failed (8) or memory ran out (9). In any case a prefix of the text that was meant was written;
 -- the story is the one that was meant, and at 9 a part of it.
-pub record Ends (told : Told) (counts now : Counts) (names : Option Names) (status : ℕ) (story : Story) (before after : Option (List ℕ)) : Type 0 where
-  pub end : Ending
-  pub meant : MeantBy told counts now names end
+pub record EndsAs (end : Ending) (status : ℕ) (story : Story) (before after : Option (List ℕ)) : Type 0 where
   pub status_is : status ≢ 8 → status ≢ 9 → status ≡ end.status
   pub wrote : status ≢ 8 → status ≢ 9 → Wrote before after end.text
   pub wrote_front : WroteFront before after end.text
   pub story_is : status ≢ 9 → story ≡ end.story
   pub part : IsPartOf story end.story
+
+-- How a call ended: as it was meant to.
+pub record Ends (told : Told) (counts now : Counts) (names : Option Names) (status : ℕ) (story : Story) (before after : Option (List ℕ)) : Type 0 where
+  pub end : Ending
+  pub meant : MeantBy told counts now names end
+  pub came : EndsAs end status story before after
 
 -- ---- the writing half
 

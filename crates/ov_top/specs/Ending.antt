@@ -1,5 +1,6 @@
--- The order of work, as one function: how the command `step` ends where its files have these bytes.
-use Rattle.std.specs.Prelude.{◌≡◌, ℕ, nat_lt, List, [], ◌++◌, length, reverse, codes, Some, None, Result, Ok, Err, ◌⊎◌, if◌then◌else◌}
+-- The order of work, as one function: how a command ends where its files have these bytes.
+use Rattle.std.specs.Prelude.{◌≡◌, ℕ, Bool, false, nat_lt, List, [], ◌++◌, length, reverse, codes, Some, None, Result, Ok, Err, ◌⊎◌, if◌then◌else◌}
+use Rattle.std.specs.Fmt.{decimal}
 use Rattle.std.specs.List.{list_all}
 use Rattle.ov_base.specs.Word.{AddsFront}
 use Rattle.ov_topology.specs.Shape.{Shape, gates}
@@ -11,9 +12,20 @@ use Rattle.ov_follow.specs.Calm.{calm, all_replied}
 use Rattle.ov_world.specs.World.{setting_by}
 use Rattle.ov_world.specs.declared.story.Story.{Story}
 use Rattle.ov_report.specs.Report.{Line, is_answered, report_text}
+use Rattle.ov_event.specs.declared.entry.Entry.{Entry}
+use Rattle.ov_journal.specs.Journal.{journal_text}
+use Rattle.ov_journal.specs.Audit.{Judges}
+use Rattle.ov_journal.specs.declared.verdict.Verdict.{Verdict}
+use Rattle.ov_journal.specs.declared.verdict.Verdict.TheVariants.{Lawful, Refused}
+use Rattle.ov_top.specs.declared.names.Task.{Task}
+use Rattle.ov_top.specs.declared.names.Task.TheVariants.{Follow, Judge}
+use Rattle.ov_top.specs.declared.prepare.Third.{Third}
+use Rattle.ov_top.specs.declared.prepare.Third.TheVariants as thirds
+use Rattle.ov_top.specs.declared.refusal.FileWord.{FileWord}
+use Rattle.ov_top.specs.declared.refusal.FileWord.TheVariants as word
 use Rattle.ov_top.specs.declared.refusal.FormFault.{FormFault}
-use Rattle.ov_top.specs.Form.{accept_topology, accept_script, accept_schedule, form_status, form_text}
-use Rattle.ov_top.specs.Names.{Names}
+use Rattle.ov_top.specs.Form.{accept_topology, accept_script, accept_third, form_status, form_text}
+use Rattle.ov_top.specs.Names.{Names, name_at, third_word}
 
 -- ---- the texts
 
@@ -26,17 +38,25 @@ read_fault_text name = codes "read fault: " ++ name ++ codes "\n"
 abbrev pub too_long_text : List ℕ → List ℕ
 too_long_text name = codes "too long: " ++ name ++ codes "\n"
 
+-- the text of a verdict on so many entries
+abbrev pub verdict_text : ℕ → Verdict → List ℕ
+verdict_text count Lawful = codes "lawful " ++ decimal count ++ codes "\n"
+verdict_text count (Refused number) = codes "journal: entry " ++ decimal number ++ codes "\n"
+
 -- ---- the files
 
 -- The bytes of the three files.
 pub record Files : Type 0 where
   pub topology : List ℕ
   pub script : List ℕ
-  pub schedule : List ℕ
+  pub third : List ℕ
 
 -- the most bytes of a file
-abbrev pub limit : ℕ
-limit = 4194304
+abbrev pub limit : FileWord → ℕ
+limit word.Topology = 4194304
+limit word.Script = 4194304
+limit word.Schedule = 4194304
+limit word.Journal = 67108864
 
 -- ---- stories
 
@@ -48,9 +68,13 @@ nothing = record { topology = None; script = None; entries = [] }
 abbrev pub with_topology : Shape → Story
 with_topology topology = record { topology = Some topology; script = None; entries = [] }
 
+-- the story of a topology and a script with these entries
+abbrev pub story_with : Shape → Content → List Entry → Story
+story_with topology script entries = record { topology = Some topology; script = Some script; entries = entries }
+
 -- the story of a topology and a script with a history
 abbrev pub story_of : Shape → Content → History → Story
-story_of topology script h = record { topology = Some topology; script = Some script; entries = reverse h }
+story_of topology script h = story_with topology script (reverse h)
 
 -- the history that a schedule, and then calm rounds, make of an empty one
 abbrev pub run_of : Shape → Content → List Step → History
@@ -83,33 +107,70 @@ report_status lines = if list_all is_answered lines then 0 else 1
 abbrev pub history_status : Shape → Content → History → ℕ
 history_status topology script h = if all_replied (setting_by topology script) h then 0 else 1
 
--- the end of a run with this history: its report
-abbrev pub reported : Shape → Content → History → Ending
-reported topology script h = record { status = history_status topology script h; text = report_text script h; story = story_of topology script h }
+-- the text of a history: its journal, or its report
+abbrev pub history_text : Bool → Content → History → List ℕ
+history_text journal script h = if journal then journal_text (reverse h) else report_text script h
+
+-- the end of a run with this history: its journal or its report
+abbrev pub reported : Bool → Shape → Content → History → Ending
+reported journal topology script h = record { status = history_status topology script h; text = history_text journal script h; story = story_of topology script h }
 
 -- the end of a schedule that was followed and calmed
-abbrev pub done : Shape → Content → List Step → Ending
-done topology script schedule = reported topology script (run_of topology script schedule)
+abbrev pub done : Bool → Shape → Content → List Step → Ending
+done journal topology script schedule = reported journal topology script (run_of topology script schedule)
 
--- a file within the limit goes on
-abbrev pub within : List ℕ → List ℕ → Story → Ending → Ending
-within name bytes story next = if nat_lt limit (length bytes) then refused 10 (too_long_text name) story else next
+-- the status of a verdict
+abbrev pub verdict_status : Verdict → ℕ
+verdict_status Lawful = 0
+verdict_status (Refused number) = 6
+
+-- the end of a journal that was judged: the verdict
+abbrev pub judged : Shape → Content → List Entry → Verdict → Ending
+judged topology script entries verdict =
+    record { status = verdict_status verdict; text = verdict_text (length entries) verdict; story = story_with topology script entries }
+
+-- whether the history is to be written in place of the report
+abbrev pub writes_journal : Task → Bool
+writes_journal (Follow journal) = journal
+writes_journal Judge = false
+
+-- the end behind a third text, with this verdict on the entries where it is a journal
+abbrev pub ended : Task → Verdict → Shape → Content → Third → Ending
+ended task verdict topology script (thirds.Schedule schedule) = done (writes_journal task) topology script schedule
+ended task verdict topology script (thirds.Journal entries) = judged topology script entries verdict
+
+-- a file within its limit goes on
+abbrev pub within : Names → FileWord → List ℕ → Story → Ending → Ending
+within names which bytes story next = if nat_lt (limit which) (length bytes) then refused 10 (too_long_text (name_at names which)) story else next
 
 -- an accepted file goes on
 abbrev pub accepted : {A : Type 0} → Result A FormFault → Story → (A → Ending) → Ending
 accepted (Ok value) story next = next value
 accepted (Err fault) story next = refused (form_status fault) (form_text fault) story
 
-abbrev pub at_schedule : Names → Files → Shape → Content → Ending
-at_schedule names files topology script =
-    within names.schedule files.schedule (story_of topology script [])
-    (accepted (accept_schedule files.schedule) (story_of topology script []) λ schedule. done topology script schedule)
+abbrev pub at_third : Names → Files → Verdict → Shape → Content → Ending
+at_third names files verdict topology script =
+    within names (third_word names.task) files.third (story_of topology script [])
+    (accepted (accept_third names.task files.third) (story_of topology script []) (ended names.task verdict topology script))
 
-abbrev pub at_script : Names → Files → Shape → Ending
-at_script names files topology =
-    within names.script files.script (with_topology topology)
-    (accepted (accept_script (gates topology) files.script) (with_topology topology) (at_schedule names files topology))
+abbrev pub at_script : Names → Files → Verdict → Shape → Ending
+at_script names files verdict topology =
+    within names word.Script files.script (with_topology topology)
+    (accepted (accept_script (gates topology) files.script) (with_topology topology) (at_third names files verdict topology))
 
--- the end with these file words, where the files have these bytes
-abbrev pub at_topology : Names → Files → Ending
-at_topology names files = within names.topology files.topology nothing (accepted (accept_topology files.topology) nothing (at_script names files))
+-- the end with these file words, where the files have these bytes, and this is the verdict on the entries of the journal
+abbrev pub at_topology : Names → Files → Verdict → Ending
+at_topology names files verdict =
+    within names word.Topology files.topology nothing (accepted (accept_topology files.topology) nothing (at_script names files verdict))
+
+-- ---- the verdict
+
+-- the verdict is right of a third text, where it is a journal
+abbrev pub IsRightOn : Shape → Content → Verdict → Third → Type 0
+IsRightOn topology script verdict (thirds.Schedule schedule) = Unit {0}
+IsRightOn topology script verdict (thirds.Journal entries) = Judges (setting_by topology script) entries verdict
+
+-- the verdict is right of the journal, where all three files are accepted
+abbrev pub IsVerdict : Names → Files → Verdict → Type 0
+IsVerdict names files verdict = (topology : Shape) (script : Content) (third : Third) → accept_topology files.topology ≡ Ok topology
+    → accept_script (gates topology) files.script ≡ Ok script → accept_third names.task files.third ≡ Ok third → IsRightOn topology script verdict third

@@ -1,5 +1,7 @@
 -- The headline of the top call, in the store's own words.
-use Rattle.std.specs.Prelude.{◌≡◌, ◌<◌, ◌≤◌, ◌+◌, ◌^◌, ℕ, false, List, [], length, reverse, slice_get, Option, Some, Ok}
+use Rattle.std.specs.Prelude.{◌≡◌, ◌<◌, ◌≤◌, ◌+◌, ◌^◌, ◌++◌, ◌⊎◌, ℕ, Bool, false, List, [], codes, length, reverse, slice_get, Option, Some, Ok, Err}
+use Rattle.std.specs.Fmt.{decimal}
+use Rattle.std.specs.List.{AllByRecursion}
 use Rattle.ov_functor.specs.declared.item.Shown.{Shown}
 use Rattle.ov_functor.specs.declared.item.Valued.{Valued}
 use Rattle.ov_functor.specs.declared.reply.Reply.{Reply}
@@ -14,7 +16,7 @@ use Rattle.ov_script.specs.Schedule.{IsSchedule, schedule_text}
 use Rattle.ov_script.specs.declared.step.Step.{Step}
 use Rattle.ov_event.specs.declared.entry.Entry.{Entry}
 use Rattle.ov_history.specs.Past.{History}
-use Rattle.ov_history.specs.May.{Setting}
+use Rattle.ov_history.specs.May.{Setting, Lawful}
 use Rattle.ov_history.specs.Serial.{serial_at}
 use Rattle.ov_follow.specs.Calm.{all_replied}
 use Rattle.ov_follow.specs.Expected.{IsExpected}
@@ -26,10 +28,15 @@ use Rattle.ov_laws.specs.Values.{SettledAlike}
 use Rattle.ov_complete.specs.Once.{OnceEach}
 use Rattle.ov_world.specs.World.{setting_by}
 use Rattle.ov_world.specs.declared.story.Story.{Story}
-use Rattle.ov_report.specs.Report.{report_text}
+use Rattle.ov_journal.specs.Audit.{FirstRefused}
+use Rattle.ov_journal.specs.Journal.{journal_of, journal_text}
+use Rattle.ov_journal.specs.Line.{HasLine}
+use Rattle.ov_journal.specs.declared.verdict.Verdict.TheVariants as verdicts
+use Rattle.ov_top.specs.declared.names.Task.TheVariants.{Follow, Judge}
 use Rattle.ov_top.specs.declared.refusal.FileWord.{FileWord}
+use Rattle.ov_top.specs.declared.refusal.FileWord.TheVariants as word
 use Rattle.ov_top.specs.Names.{Names, name_at}
-use Rattle.ov_top.specs.Ending.{Files, limit, read_fault_text, run_of}
+use Rattle.ov_top.specs.Ending.{Files, history_text, limit, read_fault_text, run_of, verdict_text}
 use Rattle.ov_top.specs.Causes.{Told, Counts, Agree}
 
 -- ---- at every status
@@ -71,26 +78,48 @@ IsShort story = length story.entries < 2 ^ 64
 
 -- ---- statuses 0 and 1
 
--- What was done: the topology, the script and the schedule are those whose texts the files are, the history is that of the schedule, calmed, and its
--- report was written.
-pub record Performed (told : Told) (words : Option Names) (story : Story) (before after : Option (List ℕ)) : Type 0 where
-  pub names : Names
-  pub words_are : words ≡ Some names
-  pub files : Files
-  pub agree : Agree told names files
+-- The topology and the script are those whose texts the files are, and the story has them.
+pub record Read (files : Files) (story : Story) : Type 0 where
   pub topology : Shape
   pub topology_is : topology_of files.topology ≡ Ok topology
   pub script : Content
   pub script_form : IsScript script
   pub script_gates : script.gateways ≡ gates topology
   pub script_is : files.script ≡ script_text script.lines
-  pub schedule : List Step
-  pub schedule_form : IsSchedule schedule
-  pub schedule_is : files.schedule ≡ schedule_text schedule
   pub told_topology : story.topology ≡ Some topology
   pub told_script : story.script ≡ Some script
-  pub entries : story.entries ≡ reverse (run_of topology script schedule)
-  pub reported : Wrote before after (report_text script (reverse story.entries))
+
+-- What `step` did: the schedule is the one whose text the third file is, the history is that of the schedule, calmed, and its report was written, or
+-- where it was asked for its journal.
+pub record Performed (told : Told) (words : Option Names) (story : Story) (before after : Option (List ℕ)) : Type 0 where
+  pub names : Names
+  pub words_are : words ≡ Some names
+  pub journal : Bool
+  pub task_is : names.task ≡ Follow journal
+  pub files : Files
+  pub agree : Agree told names files
+  pub read : Read files story
+  pub schedule : List Step
+  pub schedule_form : IsSchedule schedule
+  pub schedule_is : files.third ≡ schedule_text schedule
+  pub entries : story.entries ≡ reverse (run_of read.topology read.script schedule)
+  pub wrote : Wrote before after (history_text journal read.script (reverse story.entries))
+
+-- What `audit` did: the third file is the journal of the story's entries, which are lawful, and how many they are was written.
+pub record Audited (told : Told) (words : Option Names) (story : Story) (before after : Option (List ℕ)) : Type 0 where
+  pub names : Names
+  pub words_are : words ≡ Some names
+  pub task_is : names.task ≡ Judge
+  pub files : Files
+  pub agree : Agree told names files
+  pub read : Read files story
+  pub journal_is : files.third ≡ journal_text story.entries
+  pub lawful : Lawful (setting_by read.topology read.script) (reverse story.entries)
+  pub wrote : Wrote before after (verdict_text (length story.entries) verdicts.Lawful)
+
+-- what was asked for was done
+abbrev pub Did : Told → Option Names → Story → Option (List ℕ) → Option (List ℕ) → Type 0
+Did told words story before after = Performed told words story before after ⊎ Audited told words story before after
 
 -- A story with a topology and a script, which are these.
 pub record Has (story : Story) (topology : Shape) (script : Content) : Type 0 where
@@ -110,6 +139,25 @@ pub record Waits (story : Story) : Type 0 where
   pub waiting : all_replied (setting_by topology script) (reverse story.entries) ≡ false
   pub broken : ¬ IsWhole topology (reverse story.entries)
 
+-- ---- status 6
+
+-- Why a journal is refused: its first line off the grammar, or the first of its entries that may not follow those before it. Its number was written.
+abbrev pub RefusedBy : Files → Story → Option (List ℕ) → Option (List ℕ) → ℕ → Type 0
+RefusedBy files story before after number =
+    ((journal_of files.third ≡ Err number) × Wrote before after (codes "journal: line " ++ decimal number ++ codes "\n"))
+    ⊎ ((journal_of files.third ≡ Ok story.entries) × (read : Read files story) × FirstRefused (setting_by read.topology read.script) story.entries number
+    × Wrote before after (verdict_text (length story.entries) (verdicts.Refused number)))
+
+-- The journal is refused.
+pub record JournalRefused (told : Told) (words : Option Names) (story : Story) (before after : Option (List ℕ)) : Type 0 where
+  pub names : Names
+  pub words_are : words ≡ Some names
+  pub task_is : names.task ≡ Judge
+  pub files : Files
+  pub agree : Agree told names files
+  pub number : ℕ
+  pub why : RefusedBy files story before after number
+
 -- ---- status 7
 
 -- The file word whose read failed: the shelf's count of that name rose, and the name was written.
@@ -122,24 +170,42 @@ pub record ReadFault (counts now : Counts) (words : Option Names) (before after 
 
 -- ---- completeness
 
--- The words are in form, and the shelf tells three files in form.
-pub record InForm (told : Told) (words : Option Names) : Type 0 where
-  pub names : Names
-  pub words_are : words ≡ Some names
+-- The shelf tells a topology and a script in form.
+pub record TextsInForm (told : Told) (names : Names) : Type 0 where
   pub topology : List ℕ
   pub topology_told : told names.topology ≡ Some topology
-  pub topology_short : length topology ≤ limit
+  pub topology_short : length topology ≤ limit word.Topology
   pub shape : Shape
   pub topology_is : topology_of topology ≡ Ok shape
   pub script : Content
   pub script_form : IsScript script
   pub script_gates : script.gateways ≡ gates shape
   pub script_told : told names.script ≡ Some (script_text script.lines)
-  pub script_short : length (script_text script.lines) ≤ limit
+  pub script_short : length (script_text script.lines) ≤ limit word.Script
+
+-- The words ask to follow a schedule, and the shelf tells three files in form.
+pub record InForm (told : Told) (words : Option Names) : Type 0 where
+  pub names : Names
+  pub words_are : words ≡ Some names
+  pub journal : Bool
+  pub task_is : names.task ≡ Follow journal
+  pub texts : TextsInForm told names
   pub schedule : List Step
   pub schedule_form : IsSchedule schedule
-  pub schedule_told : told names.schedule ≡ Some (schedule_text schedule)
-  pub schedule_short : length (schedule_text schedule) ≤ limit
+  pub schedule_told : told names.third ≡ Some (schedule_text schedule)
+  pub schedule_short : length (schedule_text schedule) ≤ limit word.Schedule
+
+-- The words ask to judge a journal, and the shelf tells three files in form; the entries of the journal are lawful.
+pub record InLawfulForm (told : Told) (words : Option Names) : Type 0 where
+  pub names : Names
+  pub words_are : words ≡ Some names
+  pub task_is : names.task ≡ Judge
+  pub texts : TextsInForm told names
+  pub entries : List Entry
+  pub lines : AllByRecursion HasLine entries
+  pub journal_told : told names.third ≡ Some (journal_text entries)
+  pub journal_short : length (journal_text entries) ≤ limit word.Journal
+  pub lawful : Lawful (setting_by texts.shape texts.script) (reverse entries)
 
 -- no count of a file word has risen
 abbrev pub NoneRose : Counts → Counts → Option Names → Type 0

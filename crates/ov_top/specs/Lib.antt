@@ -5,4 +5,5 @@ pub mod Form
 pub mod Ending
 pub mod Reading
 pub mod Causes
+pub mod Performing
 pub mod Headline

@@ -9,8 +9,15 @@ use Rattle.ov_script.specs.declared.fault.ScriptError.{ScriptError}
 use Rattle.ov_script.specs.declared.fault.ScriptError.TheVariants as scripts
 use Rattle.ov_script.specs.declared.fault.ScheduleError.{ScheduleError}
 use Rattle.ov_script.specs.declared.fault.ScheduleError.TheVariants as schedules
+use Rattle.ov_journal.specs.declared.error.JournalError.{JournalError}
+use Rattle.ov_journal.specs.declared.error.JournalError.TheVariants as journals
+use Rattle.ov_journal.specs.declared.verdict.Verdict.{Verdict}
 use Rattle.ov_world.specs.declared.story.Story.{Story}
+use Rattle.ov_top.specs.declared.names.Task.{Task}
+use Rattle.ov_top.specs.declared.names.Task.TheVariants.{Follow, Judge}
 use Rattle.ov_top.specs.declared.prepare.Accepted.{Accepted}
+use Rattle.ov_top.specs.declared.prepare.Third.{Third}
+use Rattle.ov_top.specs.declared.prepare.Third.TheVariants as thirds
 use Rattle.ov_top.specs.declared.refusal.FileWord.{FileWord}
 use Rattle.ov_top.specs.declared.refusal.FormFault.{FormFault}
 use Rattle.ov_top.specs.declared.refusal.FormFault.TheVariants as form
@@ -18,7 +25,7 @@ use Rattle.ov_top.specs.declared.refusal.Refusal.{Refusal}
 use Rattle.ov_top.specs.declared.refusal.Refusal.TheVariants as why
 use Rattle.ov_top.specs.Names.{Names, name_at}
 use Rattle.ov_top.specs.Form.{form_status, form_text}
-use Rattle.ov_top.specs.Ending.{Ending, IsPartOf, nothing, refused, done, limit, read_fault_text, too_long_text}
+use Rattle.ov_top.specs.Ending.{Ending, IsPartOf, IsRightOn, nothing, refused, ended, limit, read_fault_text, too_long_text}
 use Rattle.ov_top.specs.Causes.{Told, Counts, Meant}
 
 -- ---- one file
@@ -44,11 +51,16 @@ abbrev pub by_schedule : ScheduleError → Refusal
 by_schedule schedules.Memory = why.Memory
 by_schedule fault = why.Form (form.Schedule fault)
 
+-- a refusal of the journal
+abbrev pub by_journal : JournalError → Refusal
+by_journal journals.Memory = why.Memory
+by_journal fault = why.Form (form.Journal fault)
+
 -- why a file was not read, in the words of a refusal
 abbrev pub RefusesFile : Option (List ℕ) → ℕ → ℕ → FileWord → Refusal → Type 0
 RefusesFile told count now which why.Memory = Unit {0}
 RefusesFile told count now which (why.Failed failed) = (failed ≡ which) × Rose count now
-RefusesFile told count now which (why.TooLong long) = (long ≡ which) × LongerThan limit told
+RefusesFile told count now which (why.TooLong long) = (long ≡ which) × LongerThan (limit which) told
 RefusesFile told count now which (why.Form fault) = ⊥
 
 -- the refusal of a file's bytes is the fault that they have, unless memory ran out
@@ -63,21 +75,21 @@ abbrev pub AcceptsBy : {A : Type 0} → Result A Refusal → Result A FormFault 
 AcceptsBy (Ok value) verdict = verdict ≡ Ok value
 AcceptsBy (Err refusal) verdict = RefusesForm refusal verdict
 
--- Bytes within the limit that agree with what is told, of which this becomes.
-pub record Becomes {A : Type 0} (told : Option (List ℕ)) (accept : List ℕ → Result A FormFault) (verdict : Result A FormFault) : Type 0 where
+-- Bytes within the limit of their file that agree with what is told, of which this becomes.
+pub record Becomes {A : Type 0} (told : Option (List ℕ)) (which : FileWord) (accept : List ℕ → Result A FormFault) (verdict : Result A FormFault) : Type 0 where
   pub bytes : List ℕ
   pub agrees : Agrees told bytes
-  pub short : length bytes ≤ limit
+  pub short : length bytes ≤ limit which
   pub becomes : accept bytes ≡ verdict
 
 abbrev pub RefusesRead : {A : Type 0} → Option (List ℕ) → ℕ → ℕ → FileWord → (List ℕ → Result A FormFault) → Refusal → Type 0
 RefusesRead told count now which accept why.Memory = Unit {0}
 RefusesRead told count now which accept (why.Failed failed) = (failed ≡ which) × Rose count now
-RefusesRead told count now which accept (why.TooLong long) = (long ≡ which) × LongerThan limit told
-RefusesRead told count now which accept (why.Form fault) = Becomes told accept (Err fault)
+RefusesRead told count now which accept (why.TooLong long) = (long ≡ which) × LongerThan (limit which) told
+RefusesRead told count now which accept (why.Form fault) = Becomes told which accept (Err fault)
 
 abbrev pub ReadsBy : {A : Type 0} → Option (List ℕ) → ℕ → ℕ → FileWord → (List ℕ → Result A FormFault) → Result A Refusal → Type 0
-ReadsBy told count now which accept (Ok value) = Becomes told accept (Ok value)
+ReadsBy told count now which accept (Ok value) = Becomes told which accept (Ok value)
 ReadsBy told count now which accept (Err refusal) = RefusesRead told count now which accept refusal
 
 -- a file was read and accepted, or refused by its cause
@@ -115,13 +127,25 @@ abbrev pub RefusalLeads : Names → Refusal → Story → Ending → Type 0
 RefusalLeads names why.Memory story end = IsPartOf story end.story
 RefusalLeads names refusal story end = end ≡ refused (refusal_status refusal) (refusal_text names refusal) story
 
--- what the reading half returns, with what the story has then, leads to this end
-abbrev pub Leads : Names → Result Accepted Refusal → Story → Ending → Type 0
-Leads names (Ok texts) story end = (end ≡ done texts.topology texts.script texts.schedule) × (story ≡ nothing)
-Leads names (Err refusal) story end = RefusalLeads names refusal story end
-
--- What the reading half returns leads to an end that is meant.
-pub record Prepares (told : Told) (counts now : Counts) (names : Names) (result : Result Accepted Refusal) (story : Story) : Type 0 where
+-- A refusal, with what the story has then, leads to an end that is meant.
+pub record Refuses (told : Told) (counts now : Counts) (names : Names) (refusal : Refusal) (story : Story) : Type 0 where
   pub end : Ending
   pub meant : Meant told counts now names end
-  pub leads : Leads names result story end
+  pub leads : RefusalLeads names refusal story end
+
+-- Nothing is in the story, and what is accepted leads to an end that is meant: to that of the right verdict, where the third file is a journal.
+pub record Accepts (told : Told) (counts now : Counts) (names : Names) (texts : Accepted) (story : Story) : Type 0 where
+  pub empty : story ≡ nothing
+  pub meant : (verdict : Verdict) → IsRightOn texts.topology texts.script verdict texts.third
+      → Meant told counts now names (ended names.task verdict texts.topology texts.script texts.third)
+
+-- what the reading half returns leads to an end that is meant
+abbrev pub Prepares : Told → Counts → Counts → Names → Result Accepted Refusal → Story → Type 0
+Prepares told counts now names (Ok texts) story = Accepts told counts now names texts story
+Prepares told counts now names (Err refusal) story = Refuses told counts now names refusal story
+
+-- the third text is of the kind that the task takes
+abbrev pub Fits : Task → Third → Type 0
+Fits (Follow journal) (thirds.Schedule schedule) = Unit {0}
+Fits Judge (thirds.Journal entries) = Unit {0}
+Fits task third = ⊥

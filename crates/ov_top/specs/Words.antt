@@ -3,7 +3,7 @@ use Rattle.std.specs.Prelude.{ℕ, Bool, true, false, ◌==◌, List, [], ◌∷
 use Rattle.std.specs.Str.{bytes_eq}
 use Rattle.ov_base.specs.Word.{◌>>=◌}
 use Rattle.ov_top.specs.declared.words.Order.{Order}
-use Rattle.ov_top.specs.declared.words.Order.TheVariants.{Step}
+use Rattle.ov_top.specs.declared.words.Order.TheVariants.{Step, Audit}
 
 -- whether a word begins with `-` and goes on
 abbrev pub is_option : List ℕ → Bool
@@ -11,21 +11,55 @@ is_option [] = false
 is_option (first ∷ []) = false
 is_option (first ∷ second ∷ others) = first == 45
 
--- the words that name files, read from left to right; none where one is refused. Behind a word `--`, which is dropped, all name files; before it
--- those that begin with `-` are refused, but for `-` itself
-unfoldable pub files_from : Bool → List (List ℕ) → Option (List (List ℕ))
-files_from behind [] = Some []
-files_from true (word ∷ words) = files_from true words >>= λ files. Some (word ∷ files)
-files_from false (word ∷ words) =
-    if bytes_eq word (codes "--") then files_from true words
-    else (if is_option word then None else (files_from false words >>= λ files. Some (word ∷ files)))
+-- What the words behind a command say: whether `--journal` stands among them, and the words that name files.
+pub record Said : Type 0 where
+  pub journal : Bool
+  pub files : List (List ℕ)
+
+-- what is said with no words
+abbrev pub nothing_said : Said
+nothing_said = record { journal = false; files = [] }
+
+-- what is said with a file in front
+abbrev pub with_file : List ℕ → Said → Said
+with_file word said = record { journal = said.journal; files = word ∷ said.files }
+
+-- what is said with `--journal` in front
+abbrev pub with_journal : Said → Said
+with_journal said = record { journal = true; files = said.files }
+
+-- what the words say, read from left to right, where `--journal` may stand among them or not; nothing where one is refused. Behind a word `--`, which
+-- is dropped, all name files; before it `--journal` is taken where it may stand, and then may not stand again, and other words that begin with `-` are
+-- refused, but for `-` itself
+unfoldable pub said_from : Bool → Bool → List (List ℕ) → Option Said
+said_from allowed behind [] = Some nothing_said
+said_from allowed true (word ∷ words) = said_from allowed true words >>= λ said. Some (with_file word said)
+said_from allowed false (word ∷ words) =
+    if bytes_eq word (codes "--") then said_from allowed true words
+    else (if bytes_eq word (codes "--journal") then (if allowed then (said_from false false words >>= λ said. Some (with_journal said)) else None)
+    else (if is_option word then None else (said_from allowed false words >>= λ said. Some (with_file word said))))
 
 -- the order to follow a schedule: exactly three files
-abbrev pub step_by : List (List ℕ) → Option Order
-step_by (topology ∷ script ∷ schedule ∷ []) = Some (Step topology script schedule)
-step_by files = None
+abbrev pub step_by : Bool → List (List ℕ) → Option Order
+step_by journal (topology ∷ script ∷ schedule ∷ []) = Some (Step journal topology script schedule)
+step_by journal files = None
+
+-- the order to judge a journal: exactly three files
+abbrev pub audit_by : List (List ℕ) → Option Order
+audit_by (topology ∷ script ∷ journal ∷ []) = Some (Audit topology script journal)
+audit_by files = None
+
+-- what the words behind `step` ask for
+abbrev pub step_order_of : List (List ℕ) → Option Order
+step_order_of words = said_from true false words >>= λ said. step_by said.journal said.files
+
+-- what the words behind `audit` ask for
+abbrev pub audit_order_of : List (List ℕ) → Option Order
+audit_order_of words = said_from false false words >>= λ said. audit_by said.files
 
 -- what the words ask for
 abbrev pub order_of : List (List ℕ) → Option Order
 order_of [] = None
-order_of (command ∷ words) = if bytes_eq command (codes "step") then files_from false words >>= step_by else None
+order_of (command ∷ words) =
+    if bytes_eq command (codes "step") then step_order_of words
+    else (if bytes_eq command (codes "audit") then audit_order_of words else None)

@@ -1,20 +1,28 @@
-//! The three files: reading each of them, and what is accepted of its bytes.
+//! The files: reading each of them, and what is accepted of its bytes.
 ghost use Rattle.std.specs.Prelude.{◌≡◌, ◌≤◌, length, IfOk, IfErr};
 ghost use Rattle.ov_io.specs.Causes.{NoneFell, SameCounts, NoneRoseTwice, SameTold, Agrees};
-ghost use Rattle.ov_top.specs.Form.{accept_topology, accept_script, accept_schedule};
-ghost use Rattle.ov_top.specs.Names.{names_seen, name_at};
-ghost use Rattle.ov_top.specs.Reading.{AcceptsBy, IsFailure, Reads, RefusesFile, by_topology, by_script, by_schedule, refusal_by};
+ghost use Rattle.ov_top.specs.Ending.{limit};
+ghost use Rattle.ov_top.specs.Form.{accept_topology, accept_script, accept_schedule, accept_journal, accept_third};
+ghost use Rattle.ov_top.specs.Names.{names_seen, name_at, third_word};
+ghost use Rattle.ov_top.specs.Reading.{AcceptsBy, IsFailure, Reads, RefusesFile, by_topology, by_script, by_schedule, by_journal, refusal_by};
 ghost use Rattle.ov_top.specs.declared.refusal.FileWord.TheVariants as word;
 
-use crate::names::{FileNames, name_of};
+use crate::names::{FileNames, Task, name_of};
+use crate::prepare::Third;
 use crate::refusal::{FileWord, FormFault, Refusal};
+use ov_base::Sequence;
+use ov_event::Entry;
 use ov_io::{Shelf, ShelfError};
+use ov_journal::{JournalError, read_journal};
 use ov_script::{Schedule, ScheduleError, Script, ScriptError};
 use ov_topology::{Topology, TopologyError};
 use std::alloc::Global;
 
-/// The most bytes of a file, 4 MiB.
+/// The most bytes of a file that is no journal, 4 MiB.
 const LIMIT: u64 = 4_194_304;
+
+/// The most bytes of a journal, 64 MiB.
+const JOURNAL_LIMIT: u64 = 67_108_864;
 
 /// Reads the topology and accepts it, or says why not.
 pub(crate) fn read_topology<F: Shelf>(
@@ -49,23 +57,27 @@ pub(crate) fn read_script<F: Shelf>(
     script_of(alloc, bytes.as_slice(), gateways)
 }
 
-/// Reads the schedule and accepts it, or says why not.
-pub(crate) fn read_schedule<F: Shelf>(
+/// Reads the third file, the schedule or the journal, and accepts it, or says why not.
+pub(crate) fn read_third<F: Shelf>(
     alloc: Global,
     names: &FileNames<'_>,
     shelf: &mut F,
-) -> Result<Schedule, Refusal>
-    ensures reads { Reads (F.told shelf.old) (F.faults shelf.old) (F.faults shelf.new) (names_seen names.now) word.Schedule accept_schedule result }
+) -> Result<Third, Refusal>
+    ensures reads { Reads (F.told shelf.old) (F.faults shelf.old) (F.faults shelf.new) (names_seen names.now) (third_word names.now.task) (accept_third names.now.task) result }
     ensures later { NoneFell (F.faults shelf.old) (F.faults shelf.new) }
     ensures quiet { ¬ IsFailure result → SameCounts (F.faults shelf.old) (F.faults shelf.new) }
     ensures once { NoneRoseTwice (F.faults shelf.old) (F.faults shelf.new) }
     ensures same { SameTold (F.told shelf.old) (F.told shelf.new) }
 {
-    let bytes = read_file(alloc, names, FileWord::Schedule, shelf)?;
-    schedule_of(alloc, bytes.as_slice())
+    let word = match names.task {
+        Task::Follow { .. } => FileWord::Schedule,
+        Task::Judge => FileWord::Journal,
+    };
+    let bytes = read_file(alloc, names, word, shelf)?;
+    third_of(alloc, names.task, bytes.as_slice())
 }
 
-/// Reads one file, within the limit.
+/// Reads one file, within its limit.
 fn read_file<F: Shelf>(
     alloc: Global,
     names: &FileNames<'_>,
@@ -73,16 +85,26 @@ fn read_file<F: Shelf>(
     shelf: &mut F,
 ) -> Result<Vec<u8>, Refusal>
     ensures bytes { IfOk result (λ v. Agrees (F.told shelf.old (name_at (names_seen names.now) word)) v.items) }
-    ensures short { IfOk result (λ v. length v.items ≤ LIMIT) }
+    ensures short { IfOk result (λ v. length v.items ≤ limit word) }
     ensures refused { IfErr result (λ r. RefusesFile (F.told shelf.old (name_at (names_seen names.now) word)) (F.faults shelf.old (name_at (names_seen names.now) word)) (F.faults shelf.new (name_at (names_seen names.now) word)) word r) }
     ensures later { NoneFell (F.faults shelf.old) (F.faults shelf.new) }
     ensures quiet { ¬ IsFailure result → SameCounts (F.faults shelf.old) (F.faults shelf.new) }
     ensures once { NoneRoseTwice (F.faults shelf.old) (F.faults shelf.new) }
     ensures same { SameTold (F.told shelf.old) (F.told shelf.new) }
 {
-    match shelf.read(alloc, name_of(names, word), LIMIT) {
+    match shelf.read(alloc, name_of(names, word), limit_of(word)) {
         Ok(bytes) => Ok(bytes),
         Err(error) => Err(refusal_of(error, word)),
+    }
+}
+
+/// The most bytes of this file.
+fn limit_of(word: FileWord) -> u64
+    ensures { result ≡ limit word }
+{
+    match word {
+        FileWord::Topology | FileWord::Script | FileWord::Schedule => LIMIT,
+        FileWord::Journal => JOURNAL_LIMIT,
     }
 }
 
@@ -134,6 +156,16 @@ fn script_refusal(error: ScriptError) -> Refusal
     }
 }
 
+/// The third text of the bytes, or why they are refused.
+fn third_of(alloc: Global, task: Task, bytes: &[u8]) -> Result<Third, Refusal>
+    ensures { AcceptsBy result (accept_third task bytes.now) }
+{
+    match task {
+        Task::Follow { .. } => Ok(Third::Schedule(schedule_of(alloc, bytes)?)),
+        Task::Judge => Ok(Third::Journal(journal_of(alloc, bytes)?)),
+    }
+}
+
 /// The schedule of the bytes, or why they are refused.
 fn schedule_of(alloc: Global, bytes: &[u8]) -> Result<Schedule, Refusal>
     ensures { AcceptsBy result (accept_schedule bytes.now) }
@@ -150,5 +182,24 @@ fn schedule_refusal(error: ScheduleError) -> Refusal
     match error {
         ScheduleError::Memory => Refusal::Memory,
         fault => Refusal::Form(FormFault::Schedule(fault)),
+    }
+}
+
+/// The entries of the journal of the bytes, or why they are refused.
+fn journal_of(alloc: Global, bytes: &[u8]) -> Result<Sequence<Entry>, Refusal>
+    ensures { AcceptsBy result (accept_journal bytes.now) }
+{
+    match read_journal(alloc, bytes) {
+        Ok(entries) => Ok(Sequence::from_vec(entries)),
+        Err(error) => Err(journal_refusal(error)),
+    }
+}
+
+fn journal_refusal(error: JournalError) -> Refusal
+    ensures { result ≡ by_journal error }
+{
+    match error {
+        JournalError::Memory => Refusal::Memory,
+        fault => Refusal::Form(FormFault::Journal(fault)),
     }
 }

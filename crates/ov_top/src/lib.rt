@@ -12,6 +12,7 @@
 
 mod file;
 mod names;
+mod perform;
 mod prepare;
 mod refusal;
 mod run;

@@ -1,18 +1,58 @@
-//! The file words of the command `step`.
+//! What the words ask for: what is to be done, and the words that name the files for it.
 ghost use Rattle.std.specs.Prelude.{◌≡◌};
-ghost use Rattle.ov_top.specs.Names.{name_at, names_seen};
+ghost use Rattle.ov_top.specs.Names.{name_at, names_in, names_seen};
 
 use crate::refusal::FileWord;
+use crate::words::Order;
 
-/// The file words of the command `step`.
+/// What is to be done with the files.
+#[derive(Clone, Copy, Debug)]
+pub(crate) enum Task {
+    /// To follow the schedule, and to write the history in place of the report where `journal`.
+    Follow { journal: bool },
+    /// To judge the journal.
+    Judge,
+}
+
+/// What is to be done, and the words that name the files for it.
 #[derive(Clone, Copy, Debug)]
 pub(crate) struct FileNames<'a> {
+    pub(crate) task: Task,
     /// The topology.
     pub(crate) topology: &'a str,
     /// The script.
     pub(crate) script: &'a str,
-    /// The schedule.
-    pub(crate) schedule: &'a str,
+    /// The third file: the schedule, or the journal.
+    pub(crate) third: &'a str,
+}
+
+/// What an order asks for.
+pub(crate) fn names_of(order: &Order) -> FileNames<'_>
+    ensures { names_seen result ≡ names_in order.now }
+{
+    match order {
+        Order::Step {
+            journal,
+            topology,
+            script,
+            schedule,
+        } => FileNames {
+            task: Task::Follow { journal: *journal },
+            topology: topology.as_str(),
+            script: script.as_str(),
+            third: schedule.as_str(),
+        },
+        Order::Audit {
+            topology,
+            script,
+            journal,
+        } => FileNames {
+            task: Task::Judge,
+            topology: topology.as_str(),
+            script: script.as_str(),
+            third: journal.as_str(),
+        },
+    }
 }
 
 /// The word that names this file.
@@ -22,6 +62,6 @@ pub(crate) fn name_of<'a>(names: &FileNames<'a>, word: FileWord) -> &'a str
     match word {
         FileWord::Topology => names.topology,
         FileWord::Script => names.script,
-        FileWord::Schedule => names.schedule,
+        FileWord::Schedule | FileWord::Journal => names.third,
     }
 }

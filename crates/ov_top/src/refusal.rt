@@ -4,18 +4,21 @@ ghost use Rattle.ov_base.specs.Word.{Printed};
 ghost use Rattle.ov_top.specs.Form.{form_line, form_status};
 
 use ov_base::Memory;
+use ov_journal::JournalError;
 use ov_script::{ScheduleError, ScriptError};
 use ov_topology::TopologyError;
 
-/// Which of the file words of the command `step`.
+/// Which of the file words of a command.
 #[derive(Clone, Copy, Debug, PartialEq, Eq)]
 pub(crate) enum FileWord {
     /// The first, the topology.
     Topology,
     /// The second, the script.
     Script,
-    /// The third, the schedule.
+    /// The third of `step`, the schedule.
     Schedule,
+    /// The third of `audit`, the journal.
+    Journal,
 }
 
 /// What is wrong with the bytes of a file.
@@ -27,6 +30,8 @@ pub(crate) enum FormFault {
     Script(ScriptError),
     /// The schedule is refused.
     Schedule(ScheduleError),
+    /// The journal is refused: a line of it is off the grammar.
+    Journal(JournalError),
 }
 
 /// Why a call ends before it follows anything, one variant a cause.
@@ -51,6 +56,7 @@ impl FormFault {
             FormFault::Topology(_) => 3,
             FormFault::Script(_) => 4,
             FormFault::Schedule(_) => 5,
+            FormFault::Journal(_) => 6,
         }
     }
 
@@ -62,6 +68,7 @@ impl FormFault {
             FormFault::Topology(error) => error.print_to(text),
             FormFault::Script(error) => error.print_to(text),
             FormFault::Schedule(error) => error.print_to(text),
+            FormFault::Journal(error) => error.print_to(text),
         }
     }
 }

@@ -8,29 +8,30 @@ ghost use Rattle.ov_follow.specs.Lines.{drive};
 ghost use Rattle.ov_top.specs.Ending.{IsPartOf, nothing, run_of, story_of};
 ghost use Rattle.ov_top.specs.Headline.{IsRight, IsShort};
 
-use crate::prepare::Accepted;
 use ov_base::Memory;
-use ov_script::Schedule;
+use ov_script::{Schedule, Script};
 use ov_step::{calm, drive};
+use ov_topology::Topology;
 use ov_world::{Story, World};
 use std::alloc::Global;
 
 /// Starts a world, follows the schedule, calms the world and tells the story. On an error, which is always out of memory, the story has some first
 /// entries of those. Condition: the story is empty.
-pub(crate) fn run(alloc: Global, accepted: Accepted, story: &mut Story) -> Result<(), Memory>
+pub(crate) fn run(
+    alloc: Global,
+    topology: Topology,
+    script: Script,
+    schedule: &Schedule,
+    story: &mut Story,
+) -> Result<(), Memory>
     requires { story.old ≡ nothing }
-    ensures done { OnOk result (story.new ≡ story_of accepted.topology accepted.script (run_of accepted.topology accepted.script accepted.schedule)) }
-    ensures part { OnErr result (IsPartOf story.new (story_of accepted.topology accepted.script (run_of accepted.topology accepted.script accepted.schedule))) }
+    ensures done { OnOk result (story.new ≡ story_of topology script (run_of topology script schedule.now)) }
+    ensures part { OnErr result (IsPartOf story.new (story_of topology script (run_of topology script schedule.now))) }
     ensures right { IsRight story.new }
     ensures short { IsShort story.new }
 {
-    let Accepted {
-        topology,
-        script,
-        schedule,
-    } = accepted;
     let mut world = World::start(alloc, topology, script)?;
-    let done = drive_and_calm(&mut world, &schedule);
+    let done = drive_and_calm(&mut world, schedule);
     assure_numbers(&world);
     world.tell(story);
     done

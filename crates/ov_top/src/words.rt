@@ -5,8 +5,8 @@ ghost use Rattle.clap.specs.Kinds.{FailsBy};
 ghost use Rattle.clap.specs.Matches.{found_of};
 ghost use Rattle.clap.specs.Simple.{app_of, matches_of};
 ghost use Rattle.clap.specs.Walk.{rows_of, rule_of};
-ghost use Rattle.ov_top.specs.Parsing.{step_app, files_rule, step_order_of};
-ghost use Rattle.ov_top.specs.Words.{order_of, step_by};
+ghost use Rattle.ov_top.specs.Parsing.{words_app, files_rule, journal_rule, files_given};
+ghost use Rattle.ov_top.specs.Words.{order_of, step_order_of, audit_order_of, step_by, audit_by};
 
 use clap::error::ErrorKind;
 use clap::{Arg, ArgAction, ArgMatches, Command, Error};
@@ -48,17 +48,24 @@ impl FileName {
 /// What the words of a command line ask for (docs/FORMATS.md, Words of the command line).
 #[derive(Debug, Drop)]
 pub enum Order {
-    /// To follow a schedule.
+    /// To follow a schedule, and to write the history in place of the report where `journal`.
     Step {
+        journal: bool,
         topology: FileName,
         script: FileName,
         schedule: FileName,
     },
+    /// To judge a journal.
+    Audit {
+        topology: FileName,
+        script: FileName,
+        journal: FileName,
+    },
 }
 
 /// What the words ask for: the first one is the command, and the words behind it are read from left to right. Until a word `--` a word that
-/// begins with `-` is refused, but for `-` itself; the first `--` is dropped; all others name files, of which `step` takes three. None exactly where
-/// the words are not of that form. The only error is out of memory.
+/// begins with `-` is refused, but for `-` itself and, behind `step`, one `--journal`; the first `--` is dropped; all others name files, of which each
+/// command takes three. None exactly where the words are not of that form. The only error is out of memory.
 pub fn command_of(alloc: Global, words: &[String]) -> Result<Option<Order>, Memory>
     ensures { IfOk result (λ order. order ≡ order_of (map string_bytes words.now)) }
 {
@@ -67,6 +74,8 @@ pub fn command_of(alloc: Global, words: &[String]) -> Result<Option<Order>, Memo
         [command, others @ ..] => {
             if command.as_bytes() == b"step".as_slice() {
                 step_of(alloc, others)
+            } else if command.as_bytes() == b"audit".as_slice() {
+                audit_of(alloc, others)
             } else {
                 Ok(None)
             }
@@ -78,24 +87,50 @@ pub fn command_of(alloc: Global, words: &[String]) -> Result<Option<Order>, Memo
 fn step_of(alloc: Global, words: &[String]) -> Result<Option<Order>, Memory>
     ensures { IfOk result (λ order. order ≡ step_order_of (map string_bytes words.now)) }
 {
-    match step_matches(alloc, words) {
-        Ok(matches) => match matches.get_raw("files") {
-            Some(files) => order_by(alloc, files),
-            None => Ok(None),
-        },
+    match words_matches(alloc, true, words) {
+        Ok(matches) => step_by_files(alloc, matches.get_flag("journal"), matches.get_raw("files")),
         Err(error) => refusal(error.kind()),
     }
 }
 
-/// The order to follow a schedule by these files.
-fn order_by(alloc: Global, files: &[&str]) -> Result<Option<Order>, Memory>
-    ensures { IfOk result (λ order. order ≡ step_by (map (λ file. file.now) files.now)) }
+/// The order to judge a journal, where the words name exactly three files.
+fn audit_of(alloc: Global, words: &[String]) -> Result<Option<Order>, Memory>
+    ensures { IfOk result (λ order. order ≡ audit_order_of (map string_bytes words.now)) }
+{
+    match words_matches(alloc, false, words) {
+        Ok(matches) => audit_by_files(alloc, matches.get_raw("files")),
+        Err(error) => refusal(error.kind()),
+    }
+}
+
+/// The order to follow a schedule by these files, and to write the history where `journal`.
+fn step_by_files(
+    alloc: Global,
+    journal: bool,
+    files: Option<&[&str]>,
+) -> Result<Option<Order>, Memory>
+    ensures { IfOk result (λ order. order ≡ step_by journal (files_given files.entry)) }
 {
     match files {
-        [topology, script, schedule] => Ok(Some(Order::Step {
+        Some([topology, script, schedule]) => Ok(Some(Order::Step {
+            journal,
             topology: FileName::new(alloc, topology)?,
             script: FileName::new(alloc, script)?,
             schedule: FileName::new(alloc, schedule)?,
+        })),
+        _ => Ok(None),
+    }
+}
+
+/// The order to judge a journal by these files.
+fn audit_by_files(alloc: Global, files: Option<&[&str]>) -> Result<Option<Order>, Memory>
+    ensures { IfOk result (λ order. order ≡ audit_by (files_given files.entry)) }
+{
+    match files {
+        Some([topology, script, journal]) => Ok(Some(Order::Audit {
+            topology: FileName::new(alloc, topology)?,
+            script: FileName::new(alloc, script)?,
+            journal: FileName::new(alloc, journal)?,
         })),
         _ => Ok(None),
     }
@@ -111,24 +146,33 @@ fn refusal(kind: ErrorKind) -> Result<Option<Order>, Memory>
     }
 }
 
-/// What clap makes of the words behind `step`.
-fn step_matches<'a>(alloc: Global, words: &'a [String]) -> Result<ArgMatches<'a>, Error>
-    ensures faults { FailsBy (fault_of step_app (map string_bytes words.now)) result }
-    ensures rows { IfOk result (λ m. rows_of (found_of m) ≡ matches_of step_app (map string_bytes words.now)) }
+/// What clap makes of the words behind a command, among which `--journal` may stand where `allowed`.
+fn words_matches<'a>(
+    alloc: Global,
+    allowed: bool,
+    words: &'a [String],
+) -> Result<ArgMatches<'a>, Error>
+    ensures faults { FailsBy (fault_of (words_app allowed) (map string_bytes words.now)) result }
+    ensures rows { IfOk result (λ m. rows_of (found_of m) ≡ matches_of (words_app allowed) (map string_bytes words.now)) }
 {
-    let mut command = step_command(alloc)?;
+    let mut command = words_command(alloc, allowed)?;
     command.try_get_matches_from_mut(words)
 }
 
-/// The command that takes files alone.
-fn step_command<'a>(alloc: Global) -> Result<Command<'a>, AllocError>
-    ensures { IfOk result (λ c. app_of c ≡ step_app) }
+/// The command of clap that takes files, and `--journal` where it is `allowed`.
+fn words_command<'a>(alloc: Global, allowed: bool) -> Result<Command<'a>, AllocError>
+    ensures { IfOk result (λ c. app_of c ≡ words_app allowed) }
 {
-    Command::new(alloc, "step")
+    let command = Command::new(alloc, "oceanvista")
         .no_binary_name(true)
         .disable_help_flag(true)
         .disable_version_flag(true)
-        .arg(files_arg(alloc))
+        .arg(files_arg(alloc))?;
+    if allowed {
+        command.arg(journal_arg(alloc))
+    } else {
+        Ok(command)
+    }
 }
 
 /// The argument that takes the files, as many as there are.
@@ -137,4 +181,14 @@ fn files_arg<'a>(alloc: Global) -> Arg<'a>
     ensures local { result.global ≡ false }
 {
     Arg::new(alloc, "files").action(ArgAction::Append)
+}
+
+/// The flag `--journal`, which may stand once.
+fn journal_arg<'a>(alloc: Global) -> Arg<'a>
+    ensures rule { rule_of result ≡ journal_rule }
+    ensures local { result.global ≡ false }
+{
+    Arg::new(alloc, "journal")
+        .long("journal")
+        .action(ArgAction::SetTrue)
 }

@@ -1,16 +1,21 @@
 //! The writing half: it writes the text that is meant, and reads nothing.
-ghost use Rattle.std.specs.Prelude.{◌≡◌, ◌++◌, codes, IfOk};
+ghost use Rattle.std.specs.Prelude.{◌≡◌, ◌++◌, codes, decimal, if◌then◌else◌, IfOk};
+ghost use Rattle.std.specs.List.{AllByRecursion};
+ghost use Rattle.ov_journal.specs.Journal.{journal_text};
+ghost use Rattle.ov_journal.specs.Line.{HasLine};
 ghost use Rattle.ov_report.specs.Report.{lines_text, story_lines};
 ghost use Rattle.ov_top.specs.Causes.{Puts};
-ghost use Rattle.ov_top.specs.Ending.{report_status, usage_text};
+ghost use Rattle.ov_top.specs.Ending.{report_status, usage_text, verdict_status, verdict_text};
 ghost use Rattle.ov_top.specs.Form.{form_status, form_text};
 ghost use Rattle.ov_top.specs.Names.{names_seen};
 ghost use Rattle.ov_top.specs.Reading.{refusal_status, refusal_text};
 
 use crate::names::{FileNames, name_of};
 use crate::refusal::{FormFault, Refusal};
-use ov_base::Memory;
+use ov_base::{Memory, print_number};
+use ov_event::Entry;
 use ov_io::{ReportError, Sink, put_text};
+use ov_journal::{Verdict, write_journal};
 use ov_report::Report;
 use ov_world::Story;
 use std::alloc::Global;
@@ -103,17 +108,44 @@ fn status_of(error: ReportError) -> u8
     }
 }
 
-/// Writes the report of the story, a put for each line. The status is 0 where each command of its script is replied and else 1, or that of the sink's
-/// fault or of `Memory`.
-pub(crate) fn put_report<K: Sink>(alloc: Global, story: &Story, out: &mut K) -> u8
-    ensures { Puts (report_status (story_lines story.now.script story.now.entries)) (lines_text (story_lines story.now.script story.now.entries)) result (K.faults out.old) (K.faults out.new) (K.written out.old) (K.written out.new) }
+/// Writes the report of the story, or where `journal` its journal, a put for each line. The status is 0 where each command of its script is replied and
+/// else 1, or that of the sink's fault or of `Memory`. Condition: each entry has a line.
+pub(crate) fn put_history<K: Sink>(alloc: Global, journal: bool, story: &Story, out: &mut K) -> u8
+    requires { AllByRecursion HasLine story.now.entries }
+    ensures { Puts (report_status (story_lines story.now.script story.now.entries))
+        (if journal then journal_text story.now.entries else lines_text (story_lines story.now.script story.now.entries))
+        result (K.faults out.old) (K.faults out.new) (K.written out.old) (K.written out.new) }
 {
     match Report::of(alloc, story) {
         Err(_) => 9,
-        Ok(report) => match report.put_to(alloc, out) {
-            Err(error) => status_of(error),
-            Ok(()) => status_of_lines(&report),
-        },
+        Ok(report) => {
+            if journal {
+                put_journal(alloc, &report, story.entries.as_slice(), out)
+            } else {
+                put_report(alloc, &report, out)
+            }
+        }
+    }
+}
+
+/// Writes the report. The status is its own, or that of the sink's fault or of `Memory`.
+fn put_report<K: Sink>(alloc: Global, report: &Report<'_>, out: &mut K) -> u8
+    ensures { Puts (report_status report.now) (lines_text report.now) result (K.faults out.old) (K.faults out.new) (K.written out.old) (K.written out.new) }
+{
+    match report.put_to(alloc, out) {
+        Err(error) => status_of(error),
+        Ok(()) => status_of_lines(report),
+    }
+}
+
+/// Writes the journal of these entries. The status is that of the report, or that of the sink's fault or of `Memory`. Condition: each entry has a line.
+fn put_journal<K: Sink>(alloc: Global, report: &Report<'_>, entries: &[Entry], out: &mut K) -> u8
+    requires { AllByRecursion HasLine entries.now }
+    ensures { Puts (report_status report.now) (journal_text entries.now) result (K.faults out.old) (K.faults out.new) (K.written out.old) (K.written out.new) }
+{
+    match write_journal(alloc, entries, out) {
+        Err(error) => status_of(error),
+        Ok(()) => status_of_lines(report),
     }
 }
 
@@ -122,4 +154,32 @@ fn status_of_lines(report: &Report<'_>) -> u8
     ensures { result ≡ report_status report.now }
 {
     if report.is_whole() { 0 } else { 1 }
+}
+
+/// Writes the verdict on so many entries. The status is that of the verdict, or that of the sink's fault or of `Memory`.
+pub(crate) fn put_verdict<K: Sink>(alloc: Global, count: u64, verdict: Verdict, out: &mut K) -> u8
+    ensures { Puts (verdict_status verdict) (verdict_text count verdict) result (K.faults out.old) (K.faults out.new) (K.written out.old) (K.written out.new) }
+{
+    match verdict {
+        Verdict::Lawful => put_numbered(alloc, 0, b"lawful ", count, out),
+        Verdict::Refused { entry } => put_numbered(alloc, 6, b"journal: entry ", entry, out),
+    }
+}
+
+fn put_numbered<K: Sink>(alloc: Global, status: u8, front: &[u8], number: u64, out: &mut K) -> u8
+    ensures { Puts status (front.now ++ decimal number ++ codes "\n") result (K.faults out.old) (K.faults out.new) (K.written out.old) (K.written out.new) }
+{
+    match numbered(alloc, front, number) {
+        Err(_) => 9,
+        Ok(text) => put(alloc, status, text.as_slice(), out),
+    }
+}
+
+fn numbered(alloc: Global, front: &[u8], number: u64) -> Result<Vec<u8>, Memory>
+    ensures { IfOk result (λ v. v.items ≡ front.now ++ decimal number ++ codes "\n") }
+{
+    let mut text = Vec::from_slice(alloc, front)?;
+    print_number(number, &mut text)?;
+    text.extend_from_slice(b"\n")?;
+    Ok(text)
 }

@@ -6,7 +6,7 @@ use Rattle.ov_top.proofs.run.run.Goals as goal
 pub returns-clause-part : goal.returns-clause-part
 returns-clause-part c =
     on_err c.drive_and_calm-done.result
-    (λ part. tells_part c.tell.new.story c.args.accepted.topology c.args.accepted.script (run_of c.args.accepted.topology c.args.accepted.script c.args.accepted.schedule)
+    (λ part. tells_part c.tell.new.story c.args.topology c.args.script (run_of c.args.topology c.args.script c.args.schedule.now)
     c.drive_and_calm-done.new.world (record { topology_is = c.tell.ensures.topology; script_is = c.tell.ensures.script; entries_are = c.tell.ensures.entries })
     (rw c.in_ok-world.ensures.start at part))
     c.drive_and_calm-done.ensures.part

@@ -1,6 +1,6 @@
 use Rattle.std.proofs.Common.{◌≡◌, ◌≤◌, ℕ, ◌⊎◌, inl, inr, arith}
-use Rattle.ov_top.proofs.Headlines.{performed, all_are_once, read_faulted}
-use Rattle.ov_top.proofs.Completing.{waits, completes}
+use Rattle.ov_top.proofs.Headlines.{all_are_once, did, journal_refused, read_faulted}
+use Rattle.ov_top.proofs.Completing.{accepts, completes, waits}
 use Rattle.ov_top.proofs.step.stepped_top.Goals as goal
 
 low : (status : ℕ) → (status ≡ 0) ⊎ (status ≡ 1) → status ≤ 1
@@ -8,12 +8,12 @@ low status (inl zero) = omega (arith, zero)
 low status (inr one) = omega (arith, one)
 
 pub returns-clause-done : goal.returns-clause-done
-returns-clause-done g c = λ either. performed (g.F.Shelf.told c.args.shelf.now) (g.F.Shelf.faults c.args.shelf.now) (g.F.Shelf.faults c.step_by.new.shelf) _ _ _ _ _ c.step_by.ensures.ends
+returns-clause-done g c = λ either. did (g.F.Shelf.told c.args.shelf.now) (g.F.Shelf.faults c.args.shelf.now) (g.F.Shelf.faults c.step_by.new.shelf) _ _ _ _ _ c.step_by.ensures.ends
     (low c.step_by.result either)
 
 pub returns-clause-all : goal.returns-clause-all
-returns-clause-all g c = λ zero. all_are_once (g.F.Shelf.told c.args.shelf.now) (g.F.Shelf.faults c.args.shelf.now) (g.F.Shelf.faults c.step_by.new.shelf) _ _ _ _ _ c.step_by.ensures.ends
-    c.step_by.ensures.right zero
+returns-clause-all g c = λ zero other. all_are_once (g.F.Shelf.told c.args.shelf.now) (g.F.Shelf.faults c.args.shelf.now) (g.F.Shelf.faults c.step_by.new.shelf) _ _ _ _ _ c.step_by.ensures.ends
+    c.step_by.ensures.right zero other
 
 pub returns-clause-waits : goal.returns-clause-waits
 returns-clause-waits g c = λ one. waits (g.F.Shelf.told c.args.shelf.now) (g.F.Shelf.faults c.args.shelf.now) (g.F.Shelf.faults c.step_by.new.shelf) _ _ _ _ _ c.step_by.ensures.ends
@@ -25,3 +25,10 @@ returns-clause-read g c = λ seven. read_faulted (g.F.Shelf.told c.args.shelf.no
 pub returns-clause-complete : goal.returns-clause-complete
 returns-clause-complete g c = λ form none sound whole. completes (g.F.Shelf.told c.args.shelf.now) (g.F.Shelf.faults c.args.shelf.now) (g.F.Shelf.faults c.step_by.new.shelf) _ _ _ _ _
     c.step_by.ensures.ends c.step_by.ensures.short form none (λ eight. sound (c.step_by.ensures.write eight)) whole
+
+pub returns-clause-refused : goal.returns-clause-refused
+returns-clause-refused g c = λ six. journal_refused (g.F.Shelf.told c.args.shelf.now) (g.F.Shelf.faults c.args.shelf.now) (g.F.Shelf.faults c.step_by.new.shelf) _ _ _ _ _ c.step_by.ensures.ends six
+
+pub returns-clause-accepts : goal.returns-clause-accepts
+returns-clause-accepts g c = λ form none sound. accepts (g.F.Shelf.told c.args.shelf.now) (g.F.Shelf.faults c.args.shelf.now) (g.F.Shelf.faults c.step_by.new.shelf) _ _ _ _ _
+    c.step_by.ensures.ends form none (λ eight. sound (c.step_by.ensures.write eight))

@@ -1,21 +1,29 @@
-use Rattle.std.proofs.Common.{◌∙◌, inl, inr}
+use Rattle.std.proofs.Common.{◌∙◌, ℕ, List, [], Option, ap, ap₂, sym, true, inl, inr}
+use Rattle.std.specs.Prelude.{unwrap_or}
 use Rattle.std.proofs.lemmas.Result.{IfOk-weaker}
 use Rattle.clap.specs.Matches.{found_of}
-use Rattle.ov_top.proofs.Walks.{order_found, order_refused}
+use Rattle.ov_base.specs.Word.{◌>>=◌}
+use Rattle.ov_top.specs.Words.{Said, step_by}
+use Rattle.ov_top.specs.declared.words.Order.{Order}
+use Rattle.ov_top.proofs.Walks.{all_said, flag_read, nothing_is_said}
 use Rattle.ov_top.proofs.words.step_of.Goals as goal
 
-pub returns-in-Some : goal.returns-in-Some
-returns-in-Some c =
-    IfOk-weaker c.order_by.result _ _
-    (λ order is. is ∙ order_found c.args.words.now (found_of c.in-Ok.matches) _ c.in-Ok.ensures.faults c.in-Ok.ensures.rows c.in-Some.ensures) c.order_by.ensures
+-- the order to follow a schedule, by what the words say
+abbrev order_said : Option Said → Option Order
+order_said o = o >>= λ said. step_by said.journal said.files
 
 pub returns-in-Ok : goal.returns-in-Ok
-returns-in-Ok c = order_found c.args.words.now (found_of c.in-Ok.matches) _ c.in-Ok.ensures.faults c.in-Ok.ensures.rows c.in-None.ensures
+returns-in-Ok c =
+    let found = found_of c.in-Ok.matches in
+    let all = all_said true c.args.words.now found c.in-Ok.ensures.faults c.in-Ok.ensures.rows in
+    let journal = flag_read found all.said.journal c.get_flag.result all.journal c.get_flag.ensures.value c.get_flag.ensures.other in
+    let files = ap (λ (o : Option (List (List ℕ))). unwrap_or o []) c.get_raw.ensures ∙ all.files in
+    IfOk-weaker c.step_by_files.result _ _ (λ order is. is ∙ ap₂ step_by journal files ∙ sym (ap order_said all.read)) c.step_by_files.ensures
 
-pub returns : goal.returns
-returns c =
+pub returns-in-Err : goal.returns-in-Err
+returns-in-Err c =
     IfOk-weaker c.refusal.result _ _
     (λ order is. is.0 ∙ elim c.in-Err.ensures.faults [
       | inl memory ↦ absurd (is.1 (c.kind.ensures ∙ memory))
-      | inr among ↦ order_refused c.args.words.now _ among
+      | inr among ↦ sym (ap order_said (nothing_is_said true c.args.words.now _ among))
     ]) c.refusal.ensures

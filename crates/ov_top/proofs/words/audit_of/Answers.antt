@@ -1,0 +1,27 @@
+use Rattle.std.proofs.Common.{◌∙◌, ℕ, List, [], Option, ap, sym, false, inl, inr}
+use Rattle.std.specs.Prelude.{unwrap_or}
+use Rattle.std.proofs.lemmas.Result.{IfOk-weaker}
+use Rattle.clap.specs.Matches.{found_of}
+use Rattle.ov_base.specs.Word.{◌>>=◌}
+use Rattle.ov_top.specs.Words.{Said, audit_by}
+use Rattle.ov_top.specs.declared.words.Order.{Order}
+use Rattle.ov_top.proofs.Walks.{all_said, nothing_is_said}
+use Rattle.ov_top.proofs.words.audit_of.Goals as goal
+
+-- the order to judge a journal, by what the words say
+abbrev order_said : Option Said → Option Order
+order_said o = o >>= λ said. audit_by said.files
+
+pub returns-in-Ok : goal.returns-in-Ok
+returns-in-Ok c =
+    let all = all_said false c.args.words.now (found_of c.in-Ok.matches) c.in-Ok.ensures.faults c.in-Ok.ensures.rows in
+    let files = ap (λ (o : Option (List (List ℕ))). unwrap_or o []) c.get_raw.ensures ∙ all.files in
+    IfOk-weaker c.audit_by_files.result _ _ (λ order is. is ∙ ap audit_by files ∙ sym (ap order_said all.read)) c.audit_by_files.ensures
+
+pub returns-in-Err : goal.returns-in-Err
+returns-in-Err c =
+    IfOk-weaker c.refusal.result _ _
+    (λ order is. is.0 ∙ elim c.in-Err.ensures.faults [
+      | inl memory ↦ absurd (is.1 (c.kind.ensures ∙ memory))
+      | inr among ↦ sym (ap order_said (nothing_is_said false c.args.words.now _ among))
+    ]) c.refusal.ensures
