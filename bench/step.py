@@ -52,9 +52,9 @@ def work(folder, name, commands, lines):
     return [write(folder, f"{name}.{commands}.{lines}.{kind}", text) for kind, text in zip(("topology", "script", "schedule"), texts)]
 
 
-def measured(options, files):
-    """The units and the MiB that the command takes over these files."""
-    words = [os.path.join(HERE, "units"), "--runs", str(options.runs), options.program, "step", *files]
+def measured(options, command, files):
+    """The units and the MiB that a command takes over these files."""
+    words = [os.path.join(HERE, "units"), "--runs", str(options.runs), options.program, command, *files]
     ran = subprocess.run(words, stdout=subprocess.PIPE, text=True, check=False)
     found = re.search(r"([\d.]+) units, ([\d.]+) MiB", ran.stdout)
     if ran.returncode != 0 or found is None:
@@ -67,22 +67,28 @@ def verdict(ratio, most):
     return f"{ratio:.2f}{'' if ratio <= most else ' MISSED'}"
 
 
-def main():
-    parser = argparse.ArgumentParser(description=__doc__, formatter_class=argparse.RawDescriptionHelpFormatter)
+def options_of(text):
+    """The options of a program whose head is this text."""
+    parser = argparse.ArgumentParser(description=text, formatter_class=argparse.RawDescriptionHelpFormatter)
     parser.add_argument("--program", default=PROGRAM)
     parser.add_argument("--runs", type=int, default=7)
     options = parser.parse_args()
     if not os.access(options.program, os.X_OK):
         sys.exit("build the program first: bin/oceanvista")
+    return options
+
+
+def main():
+    options = options_of(__doc__)
     spent = {}
     with tempfile.TemporaryDirectory() as folder:
         print(f"{'work':6} {'schedule':9} units   MiB  beside plain Rust, at most {MOST}: time, memory")
         for (name, kind), (goal_units, goal_memory) in GOALS.items():
-            units, memory = measured(options, work(folder, name, COMMANDS, LINES if kind == "schedule" else 0))
+            units, memory = measured(options, "step", work(folder, name, COMMANDS, LINES if kind == "schedule" else 0))
             spent[name, kind] = units
             ratios = f"{verdict(units / goal_units, MOST)}, {verdict(memory / goal_memory, MOST)}"
             print(f"{name:6} {kind:9} {units:5.3f} {memory:5.1f}  {ratios}", flush=True)
-        half, _ = measured(options, work(folder, "five", COMMANDS // 2, 0))
+        half, _ = measured(options, "step", work(folder, "five", COMMANDS // 2, 0))
     growth = verdict(spent["five", "empty"] / half, MOST_GROWTH)
     print(f"growth of five with the empty schedule from {COMMANDS // 2} to {COMMANDS} commands, at most {MOST_GROWTH}: {growth}")
 
