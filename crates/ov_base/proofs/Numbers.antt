@@ -1,6 +1,6 @@
 -- What reading digits gives on a text without a leading zero, in the words of a reader.
-use Rattle.std.proofs.Common.{◌≡◌, ℕ, ◌+◌, ◌-◌, ◌*◌, ◌<◌, ◌≤◌, ◌^◌, List, [], ◌∷◌, length, Option, Some, None, refl, sym, ap, subst, ◌∙◌, arith, inl, inr, Bool, true, false, IsTrue, ◌↔◌, cond, ltb, leb, ◌&&◌}
-use Rattle.std.specs.Fmt.{decimal}
+use Rattle.std.proofs.Common.{◌≡◌, ℕ, ◌+◌, ◌-◌, ◌*◌, ◌/◌, ◌%◌, ◌<◌, ◌≤◌, ◌^◌, List, [], ◌∷◌, length, Option, Some, None, refl, sym, ap, subst, ◌∙◌, arith, inl, inr, Bool, true, false, IsTrue, ◌↔◌, cond, ltb, leb, ◌&&◌}
+use Rattle.std.specs.Fmt.{decimal, digits}
 use Rattle.std.specs.Char.{digit_value}
 use Rattle.std.specs.Int.{IsInRange}
 use Rattle.std.specs.Str.Parse.{digits_value, digits_value_after, AllDigits}
@@ -118,3 +118,11 @@ within_takes low high bs n e =
     let tests = and_parts (leb low m) (leb m high) q.0 in
     let spelled = number_takes bs m read in
     subst (λ (k : ℕ). IsWithin low high k × (bs ≡ decimal k)) q.1 ((leb-true low m tests.0, leb-true m high tests.1), spelled.1)
+
+-- a number below 10 is written as one digit
+pub digit_decimal : (n : ℕ) → n < 10 → decimal n ≡ (48 + n) ∷ []
+unfolding digits
+digit_decimal n less =
+    let none : n / 10 ≡ 0 = omega (arith, less) in
+    let same : n % 10 ≡ n = omega (arith, less) in
+    rw (none, same, lt-ltb n 10 less) refl

@@ -1,5 +1,5 @@
 //! Whole numbers as words: decimal digits, without a sign and without a leading zero.
-ghost use Rattle.std.specs.Prelude.{◌≡◌, ◌++◌, decimal, OnOk, OnErr, IsTrue, ◌↔◌};
+ghost use Rattle.std.specs.Prelude.{◌≡◌, ◌<◌, ◌++◌, decimal, OnOk, OnErr, IsTrue, ◌↔◌};
 ghost use Rattle.ov_base.specs.Word.{Reads};
 ghost use Rattle.ov_base.specs.Number as spec;
 ghost use Rattle.ov_base.specs.Number.{IsWord64, IsWithin, IsPlain, number_of, number_within, value_after};
@@ -83,7 +83,20 @@ pub fn print_number(number: u64, text: &mut Vec<u8>) -> Result<(), Memory>
     ensures ok { OnOk result (text.new.items ≡ text.old.items ++ decimal number) }
     ensures err { OnErr result (text.new.items ≡ text.old.items) }
 {
+    if number < 10 {
+        return print_digit(number, text);
+    }
     let mut digits = Buffer::new();
     text.extend_from_slice(digits.format(number).as_bytes())?;
+    Ok(())
+}
+
+/// Writes a number below 10, which is one digit, at the end: most numbers of a journal are. On an error the text is as before.
+fn print_digit(digit: u64, text: &mut Vec<u8>) -> Result<(), Memory>
+    requires { digit < 10 }
+    ensures ok { OnOk result (text.new.items ≡ text.old.items ++ decimal digit) }
+    ensures err { OnErr result (text.new.items ≡ text.old.items) }
+{
+    text.push(b'0' + digit as u8)?;
     Ok(())
 }

@@ -6,7 +6,8 @@ use Rattle.ov_functor.specs.declared.part.Part.TheVariants as parts
 use Rattle.ov_functor.specs.Execution.{moves_of}
 use Rattle.ov_functor.specs.Transaction.{transaction_error}
 
-moves_below : (transaction : List Part) → length (moves_of transaction) ≤ length transaction
+-- there are no more moves than parts
+pub moves_below : (transaction : List Part) → length (moves_of transaction) ≤ length transaction
 moves_below [] = omega arith
 moves_below (parts.Put key amount ∷ others) = omega (arith, moves_below others)
 moves_below (parts.Del key ∷ others) = omega (arith, moves_below others)

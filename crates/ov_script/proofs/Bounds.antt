@@ -20,7 +20,8 @@ pub passed : {A : Type 0} (b : Bool) (x : A) (o : Option A) → ◌≡◌ {A = O
 passed true x o e = absurd cc
 passed false x o e = (refl, e)
 
-chosen_none : {A : Type 0} (b : Bool) (o : Option A) (x : A) → ◌≡◌ {A = Option A} (cond b o (Some x)) None → o ≡ None
+-- a choice that gave nothing where the other gives something chose what is nothing
+pub chosen_none : {A : Type 0} (b : Bool) (o : Option A) (x : A) → ◌≡◌ {A = Option A} (cond b o (Some x)) None → o ≡ None
 chosen_none true o x e = e
 chosen_none false o x e = absurd cc
 
