@@ -3,6 +3,7 @@ mod LineLists
 mod LineTakes
 mod LineAgain
 mod Pieces
+pub mod LineCuts
 pub mod Journals
 mod Writing
 mod Examples

@@ -1,5 +1,5 @@
 //! Reading what a gateway did, from the words and groups behind the word of its kind.
-ghost use Rattle.std.specs.Prelude.{◌≡◌, IfOk};
+ghost use Rattle.std.specs.Prelude.{◌≡◌, ℕ, List, IfOk};
 ghost use Rattle.ov_base.specs.Groups.{groups_in, words_in};
 ghost use Rattle.ov_journal.specs.Read as spec;
 
@@ -10,6 +10,7 @@ use crate::word::{parse_seq, parse_session, parse_time};
 use ov_base::{Memory, Sequence, Version};
 use ov_event::{Entry, Kind};
 use ov_functor::Reply;
+use ov_gossip::Vector;
 use ov_topology::{Actor, Place, parse_node};
 use std::alloc::Global;
 
@@ -34,9 +35,9 @@ pub(crate) fn add_gate_kind(
             [_, ..] => Ok(false),
         }
     } else if word == b"published".as_slice() {
-        add_published(alloc, actor, words, groups, entries)
+        add_published(actor, words, parse_vector(alloc, groups)?, entries)
     } else if word == b"heard".as_slice() {
-        add_heard(alloc, actor, words, groups, entries)
+        add_heard(actor, words, parse_vector(alloc, groups)?, entries)
     } else if word == b"replied".as_slice() {
         match groups {
             [] => add_replied(alloc, actor, words, entries),
@@ -121,26 +122,26 @@ fn add_acked(actor: Actor, words: &[&[u8]], entries: &mut Sequence<Entry>) -> Re
     }
 }
 
+/// Adds that the gateway published these marks.
 #[tactic(auto, unfolding(crate::specs::Read::published_of))]
-fn add_published(
-    alloc: Global,
+pub(crate) fn add_published(
     actor: Actor,
     words: &[&[u8]],
-    groups: &[&[&[u8]]],
+    vector: Option<Vector>,
     entries: &mut Sequence<Entry>,
 ) -> Result<bool, Memory>
-    ensures { IfOk result (λ read. (read, entries.new)
-        ≡ spec.added entries.old actor (spec.published_of (words_in words.now) (groups_in groups.now))) }
+    ensures { (groups : List (List (List ℕ))) → vector ≡ spec.vector_of groups → IfOk result (λ read. (read, entries.new)
+        ≡ spec.added entries.old actor (spec.published_of (words_in words.now) groups)) }
 {
     match words {
         [time] => {
             let Some(time) = parse_time(time) else {
                 return Ok(false);
             };
-            match parse_vector(alloc, groups)? {
-                None => Ok(false),
-                Some(vector) => add_kind(actor, Kind::Published { time, vector }, entries),
-            }
+            let Some(vector) = vector else {
+                return Ok(false);
+            };
+            add_kind(actor, Kind::Published { time, vector }, entries)
         }
         _ => Ok(false),
     }

@@ -8,8 +8,9 @@ ghost use Rattle.ov_journal.specs.Journal.{Gives, first_read, journal_of, journa
 ghost use Rattle.ov_journal.specs.Line.{HasLine, entry_text};
 
 use crate::error::JournalError;
-use crate::line::add_entry;
 use crate::print::print_into;
+use crate::tailed::add_line;
+use crate::tails::Tails;
 use ov_base::{FromLines, LineError, Memory, Sequence, read_lines};
 use ov_event::Entry;
 use ov_io::{ReportError, Sink, put_text};
@@ -49,8 +50,12 @@ fn journal_read(alloc: Global, bytes: &[u8]) -> Result<Vec<Entry>, JournalError>
 fn lines_read(alloc: Global, bytes: &[u8]) -> Result<Vec<Entry>, JournalError>
     ensures { Gives (λ entries. entries.items) result (spec.numbered (spec.lines_of bytes.now)) }
 {
+    let Ok(tails) = Tails::new(alloc, about_lines(bytes)) else {
+        return Err(JournalError::Memory);
+    };
     let empty = Entries {
         entries: room_for(alloc, bytes),
+        tails,
     };
     match read_lines(alloc, empty, bytes) {
         Ok(read) => Ok(read.entries.into_vec()),
@@ -77,10 +82,11 @@ fn about_lines(bytes: &[u8]) -> usize {
     lines.saturating_mul(times).min(bytes.len() / SHORTEST_LINE)
 }
 
-/// The entries of the lines that were read. Contracts see the list.
+/// The entries of the lines that were read, and what was read last behind the heads of lines. Contracts see the entries.
 #[derive(Drop)]
 pub struct Entries {
     entries: Sequence<Entry>,
+    tails: Tails,
 }
 
 impl Model for Entries {
@@ -103,7 +109,7 @@ impl FromLines for Entries {
         if line == 1 {
             return take_first(line, text);
         }
-        match add_entry(alloc, text, &mut self.entries) {
+        match add_line(alloc, text, &mut self.tails, &mut self.entries) {
             Err(_) => Err(LineError::Memory),
             Ok(false) => Err(LineError::Line { line, fault: () }),
             Ok(true) => Ok(()),

@@ -22,6 +22,8 @@ mod node;
 mod print;
 mod settler;
 mod start;
+mod tailed;
+mod tails;
 mod verdict;
 mod word;
 

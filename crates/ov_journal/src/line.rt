@@ -98,7 +98,7 @@ fn add_actor_entry(
 }
 
 /// Adds what this actor did.
-fn add_by(
+pub(crate) fn add_by(
     alloc: Global,
     actor: Actor,
     word: &[u8],

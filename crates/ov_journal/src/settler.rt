@@ -1,14 +1,16 @@
 //! Reading what a settler did, from the words and groups behind the word of its kind.
-ghost use Rattle.std.specs.Prelude.{◌≡◌, IfOk};
+ghost use Rattle.std.specs.Prelude.{◌≡◌, ℕ, List, IfOk};
 ghost use Rattle.ov_base.specs.Groups.{groups_in, words_in};
+ghost use Rattle.ov_base.specs.Split.{all_of};
+ghost use Rattle.ov_event.specs.ItemWords.{item_of};
 ghost use Rattle.ov_journal.specs.Read as spec;
 
 use crate::common::{add_heard, add_kind, add_stopped};
-use crate::list::{parse_items, parse_values};
+use crate::list::{parse_items, parse_values, parse_vector};
 use crate::word::{parse_mark, parse_round, parse_seq, parse_session};
-use ov_base::{Memory, Sequence};
+use ov_base::{Memory, Sequence, Shared};
 use ov_event::{Entry, Kind};
-use ov_functor::Reply;
+use ov_functor::{Item, Reply};
 use ov_topology::{Actor, Mode, Place, parse_gate, parse_node};
 use std::alloc::Global;
 
@@ -26,14 +28,14 @@ pub(crate) fn add_settler_kind(
         ≡ spec.added entries.old actor (spec.settler_kind_of word.now (words_in words.now) (groups_in groups.now))) }
 {
     if word == b"heard".as_slice() {
-        add_heard(alloc, actor, words, groups, entries)
+        add_heard(actor, words, parse_vector(alloc, groups)?, entries)
     } else if word == b"asked".as_slice() {
         match groups {
             [] => add_asked(actor, words, entries),
             [_, ..] => Ok(false),
         }
     } else if word == b"taken".as_slice() {
-        add_taken(alloc, actor, words, groups, entries)
+        add_taken(actor, words, parse_items(alloc, groups)?, entries)
     } else if word == b"settled".as_slice() {
         add_settled(alloc, actor, words, groups, entries)
     } else if word == b"resulted".as_slice() {
@@ -82,16 +84,16 @@ fn add_asked(actor: Actor, words: &[&[u8]], entries: &mut Sequence<Entry>) -> Re
     }
 }
 
+/// Adds that the settler took these items.
 #[tactic(auto, unfolding(crate::specs::Read::taken_of))]
-fn add_taken(
-    alloc: Global,
+pub(crate) fn add_taken(
     actor: Actor,
     words: &[&[u8]],
-    groups: &[&[&[u8]]],
+    items: Option<Shared<Item>>,
     entries: &mut Sequence<Entry>,
 ) -> Result<bool, Memory>
-    ensures { IfOk result (λ read. (read, entries.new)
-        ≡ spec.added entries.old actor (spec.taken_of (words_in words.now) (groups_in groups.now))) }
+    ensures { (groups : List (List (List ℕ))) → items ≡ all_of item_of groups → IfOk result (λ read. (read, entries.new)
+        ≡ spec.added entries.old actor (spec.taken_of (words_in words.now) groups)) }
 {
     match words {
         [entry, letter, round, node] => {
@@ -104,20 +106,20 @@ fn add_taken(
             let Some((centre, part)) = parse_node(node) else {
                 return Ok(false);
             };
-            match parse_items(alloc, groups)? {
-                None => Ok(false),
-                Some(items) => add_kind(
-                    actor,
-                    Kind::Taken {
-                        place,
-                        round,
-                        centre,
-                        part,
-                        items,
-                    },
-                    entries,
-                ),
-            }
+            let Some(items) = items else {
+                return Ok(false);
+            };
+            add_kind(
+                actor,
+                Kind::Taken {
+                    place,
+                    round,
+                    centre,
+                    part,
+                    items,
+                },
+                entries,
+            )
         }
         _ => Ok(false),
     }

@@ -1,13 +1,13 @@
 //! Judging the entries of a journal.
-ghost use Rattle.std.specs.Prelude.{◌≡◌, ◌+◌, ◌++◌, [], length, reverse, IfOk};
-ghost use Rattle.ov_world.specs.World.{setting_by, setting_of};
+ghost use Rattle.std.specs.Prelude.{IfOk};
+ghost use Rattle.ov_world.specs.World.{setting_by};
 ghost use Rattle.ov_journal.specs.Audit.{Judges};
 
 use ov_base::Memory;
 use ov_event::Entry;
 use ov_script::Script;
 use ov_topology::Topology;
-use ov_world::World;
+use ov_world::first_refused;
 use std::alloc::Global;
 
 /// What is found of entries that are judged.
@@ -19,8 +19,8 @@ pub enum Verdict {
     Refused { entry: u64 },
 }
 
-/// Whether each of the entries, the oldest first, may follow those before it, in a world of the topology and the script
-/// (docs/STORE.md, When an entry may follow); else the number of the first that may not. The only error is out of memory.
+/// Whether each of the entries, the oldest first, may follow those before it, over the topology and the script (docs/STORE.md,
+/// When an entry may follow); else the number of the first that may not. The only error is out of memory.
 pub fn audit(
     alloc: Global,
     topology: &Topology,
@@ -29,23 +29,8 @@ pub fn audit(
 ) -> Result<Verdict, Memory>
     ensures { IfOk result (λ verdict. Judges (setting_by topology.now script.now) entries.now verdict) }
 {
-    let mut world = World::start(alloc, topology.copy()?, script.copy()?)?;
-    admit_all(&mut world, entries)
-}
-
-/// Admits the entries, one behind the other, up to the first that may not follow. Condition: nothing was done in the world yet.
-fn admit_all(world: &mut World, entries: &[Entry]) -> Result<Verdict, Memory>
-    requires { world.old.history ≡ [] }
-    ensures { IfOk result (λ verdict. Judges (setting_of world.old) entries.now verdict) }
-{
-    let mut rest = entries;
-    while let [first, others @ ..] = rest {
-        if !world.admit(first)? {
-            return Ok(Verdict::Refused {
-                entry: world.entries().len() as u64 + 1,
-            });
-        }
-        rest = others;
+    match first_refused(alloc, topology, script, entries)? {
+        None => Ok(Verdict::Lawful),
+        Some(entry) => Ok(Verdict::Refused { entry }),
     }
-    Ok(Verdict::Lawful)
 }

@@ -14,7 +14,8 @@ use Rattle.ov_world.specs.World.{setting_by}
 use Rattle.ov_world.specs.declared.story.Story.{Story}
 use Rattle.ov_top.specs.declared.refusal.FormFault.{FormFault}
 use Rattle.ov_history.specs.May.{Lawful}
-use Rattle.ov_journal.specs.Audit.{FirstRefused, Judges}
+use Rattle.ov_world.specs.Judging.{FirstRefused}
+use Rattle.ov_journal.specs.Audit.{Judges}
 use Rattle.ov_journal.specs.Journal.{journal_of, journal_text}
 use Rattle.ov_journal.specs.declared.verdict.Verdict.{Verdict}
 use Rattle.ov_journal.specs.declared.verdict.Verdict.TheVariants as verdicts

@@ -28,7 +28,7 @@ use Rattle.ov_laws.specs.Values.{SettledAlike}
 use Rattle.ov_complete.specs.Once.{OnceEach}
 use Rattle.ov_world.specs.World.{setting_by}
 use Rattle.ov_world.specs.declared.story.Story.{Story}
-use Rattle.ov_journal.specs.Audit.{FirstRefused}
+use Rattle.ov_world.specs.Judging.{FirstRefused}
 use Rattle.ov_journal.specs.Journal.{journal_of, journal_text}
 use Rattle.ov_journal.specs.Line.{HasLine}
 use Rattle.ov_journal.specs.declared.verdict.Verdict.TheVariants as verdicts

@@ -5,3 +5,4 @@ pub mod Sessions
 pub mod Acting
 pub mod ActingGates
 pub mod ActingSettlers
+mod Judging

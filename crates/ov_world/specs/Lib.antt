@@ -3,3 +3,4 @@ pub mod Acts
 pub mod Actors
 pub mod World
 pub mod Holds
+pub mod Judging

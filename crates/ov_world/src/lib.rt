@@ -11,6 +11,7 @@
 mod act;
 mod actor_core;
 mod delivered;
+mod judge;
 mod line;
 mod story;
 #[cfg(test)]
@@ -18,6 +19,7 @@ mod tests;
 mod world;
 
 pub use act::Act;
+pub use judge::first_refused;
 pub use line::Line;
 pub use story::Story;
 pub use world::World;

@@ -117,7 +117,11 @@ impl World {
 }
 
 /// The cores of all actors, which have done nothing. Condition: the roster fits. The only error is out of memory.
-fn cores_of(alloc: Global, topology: &Topology, roster: &Roster) -> Result<Vec<ActorCore>, Memory>
+pub(crate) fn cores_of(
+    alloc: Global,
+    topology: &Topology,
+    roster: &Roster,
+) -> Result<Vec<ActorCore>, Memory>
     requires { IsRoster roster.now }
     ensures { IfOk result (λ cores. AllStand (record { topology = topology.now; roster = roster.now }) [] cores.items) }
 {

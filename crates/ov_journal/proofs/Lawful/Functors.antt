@@ -23,6 +23,7 @@ use Rattle.ov_functor.specs.declared.item.Item.{Item}
 use Rattle.ov_functor.specs.declared.part.Part.{Part}
 use Rattle.ov_functor.specs.declared.part.Part.TheVariants.{Put, Del, Add, Least, Greatest, Move, Get}
 use Rattle.ov_functor.specs.declared.part.Move as moves
+use Rattle.ov_functor.proofs.TransactionCode.{moves_below}
 use Rattle.ov_functor.proofs.Agreement.{is_one_side}
 use Rattle.ov_functor.proofs.Among.{among_either}
 use Rattle.ov_functor.proofs.ItemValues.{functor_writes}
@@ -148,12 +149,6 @@ apart_moves earlier (Move from to amount ∷ others) none =
     rw (differ, later_apart from earlier part others both.1 giver, later_apart to earlier part others both.1 getter) (apart_moves (earlier ++ part ∷ []) others both.1)
 apart_moves earlier (part ∷ others) none = apart_moves (earlier ++ part ∷ []) others (neither (repeated_in earlier part) (repeated_from (earlier ++ part ∷ []) others) none).1
 
--- there are no more moves than parts
-few_moves : (parts : List Part) → length (moves_of parts) ≤ length parts
-few_moves [] = omega arith
-few_moves (Move from to amount ∷ others) = omega (arith, few_moves others)
-few_moves (part ∷ others) = omega (arith, few_moves others)
-
 -- the moves of parts in form are of at least 1
 some_moves : (parts : List Part) → AllByRecursion IsPart parts → list_all moves_some (moves_of parts) ≡ true
 some_moves [] each = refl
@@ -212,7 +207,7 @@ plain_here : (key : List ℕ) (earlier : List Part) (part : Part) (others : List
     → moves_of (part ∷ others) ≡ moves_of others → IsPlain key (part ∷ others)
 plain_here key earlier part others effect none is same = record {
   apart = rw same (later_apart key earlier part others none (ap (λ (o : Option Effect). is_some o) is));
-  fewer = rw same (let few = few_moves others in omega (arith, few));
+  fewer = rw same (let few = moves_below others in omega (arith, few));
 }
 
 -- where others are plain, they are with a part more that is no move

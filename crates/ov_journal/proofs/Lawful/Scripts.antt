@@ -27,7 +27,7 @@ use Rattle.ov_script.specs.Script.{Content, Follow, IsScript}
 use Rattle.ov_script.specs.Sessions.{sessions_of, command_by, plan_by, waiting_by, names_by, planned_from, plan_of, roster_of}
 use Rattle.ov_script.specs.declared.line.ScriptLine.{ScriptLine}
 use Rattle.ov_script.specs.declared.line.ScriptLine.TheVariants.{Session, Do, Snap, After}
-use Rattle.ov_script.proofs.Bounds.{passed, script_roster}
+use Rattle.ov_script.proofs.Bounds.{chosen_none, passed, script_roster}
 use Rattle.ov_journal.specs.Line.{IsKeys, most_sessions, most_commands}
 
 -- a command in form: parts that are a transaction, or the keys of a snapshot
@@ -46,11 +46,6 @@ there : {A : Type 0} (P : A → Type 0) (xs : List A) (i : ℕ) (x : A) → slic
 there P xs i x is all = subst P (get_or_from_slice_get xs i x x is) (all_at P xs i x (slice_get_within xs i x is) all)
 
 -- ---- one line
-
--- a choice that gave nothing where the other gives something chose what is nothing
-else_none : {A : Type 0} (b : Bool) (o : Option A) (x : A) → ◌≡◌ {A = Option A} (cond b o (Some x)) None → o ≡ None
-else_none true o x e = e
-else_none false o x e = absurd cc
 
 -- parts in form are parts, each in form
 pub each_part : (transaction : List Part) → IsParts transaction → AllByRecursion IsPart transaction
@@ -74,12 +69,12 @@ line_form gateways before (Session declared gate) name command form none is = ab
 line_form gateways before (Do session transaction) name command form none is =
     let q = chosen (bytes_eq session name) (Some (commands.Transact transaction)) command is in
     let same : ◌≡◌ {A = Command} (commands.Transact transaction) command = same_Some (commands.Transact transaction) command q.1 in
-    let right : transaction_error transaction ≡ None = no_error before (transaction_error transaction) (else_none (is_declared session before) _ _ none) in
+    let right : transaction_error transaction ≡ None = no_error before (transaction_error transaction) (chosen_none (is_declared session before) _ _ none) in
     subst InForm same (form.1, record { form = right; positive = parts_positive transaction form.1 })
 line_form gateways before (Snap session keys) name command form none is =
     let q = chosen (bytes_eq session name) (Some (commands.Snap keys)) command is in
     let same : ◌≡◌ {A = Command} (commands.Snap keys) command = same_Some (commands.Snap keys) command q.1 in
-    let first = else_none (is_declared session before) _ _ none in
+    let first = chosen_none (is_declared session before) _ _ none in
     let second = passed (leb (suc most_keys) (length keys)) _ _ first in
     let third = passed (repeats keys) _ _ second.1 in
     subst InForm same (keys_form keys form.1 (leb-false (suc most_keys) (length keys) second.0) third.0)
