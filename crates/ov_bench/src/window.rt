@@ -2,7 +2,7 @@
 use crate::sum::{key_of, sum_on};
 use crate::task::Task;
 use anyhow::{Context, Result, bail};
-use ov_base::{Value, Version};
+use ov_base::Version;
 use ov_functor::Item;
 use ov_lists::VersionLists;
 use ov_topology::{Mode, Topology};
@@ -18,34 +18,53 @@ const ROUND: Round = Round {
 /// Gathers, plans and evaluates so often a window of SIZE sums on so many keys; how many values it has.
 pub fn plan(rt: &HostRuntime, task: &Task, keys: usize) -> Result<usize> {
     let items = items_of(rt, task.size, keys)?;
-    let Ok(topology) = Topology::of(rt.alloc(), 1, 1, &[0], 1, 1) else {
-        bail!("out of memory");
-    };
-    let base: VersionLists<Value> = VersionLists::new(rt.alloc());
     let mut count = 0;
     for _ in 0..task.times {
-        let Some(values) = planned(rt, &topology, items.as_slice(), &base) else {
-            bail!("out of memory");
-        };
-        count = values;
+        let plan = planned(rt, items.as_slice())?;
+        count = evaluated(rt, &plan)?;
     }
     Ok(count)
 }
 
-/// Gathers, plans and evaluates the items; how many values there are. None where memory runs out.
-fn planned(
-    rt: &HostRuntime,
-    topology: &Topology,
-    items: &[Item],
-    base: &VersionLists<Value>,
-) -> Option<usize> {
-    let mut harvest = Harvest::new(rt.alloc(), topology, ROUND).ok()?;
-    if topology.partitions() > 0 && topology.centres() > 0 {
-        harvest.add(0, 0, items).ok()?;
+/// Evaluates so often the plan of SIZE sums on so many keys; how many values it has.
+pub fn evaluate(rt: &HostRuntime, task: &Task) -> Result<usize> {
+    let [keys] = task.words else {
+        bail!("usage: ov_bench eval_plan SIZE TIMES KEYS");
+    };
+    let plan = plan_of(rt, task.size, keys.as_str())?;
+    let mut count = 0;
+    for _ in 0..task.times {
+        count = evaluated(rt, &plan)?;
     }
-    let plan = Plan::build(rt.alloc(), &harvest, base).ok()?;
-    let values = eval_all(rt.alloc(), &plan).ok()?;
-    Some(values.len())
+    Ok(count)
+}
+
+/// The plan of a window of so many sums on so many keys.
+pub fn plan_of(rt: &HostRuntime, size: usize, keys: &str) -> Result<Plan> {
+    let keys = keys.parse::<usize>().context("KEYS")?;
+    let items = items_of(rt, size, keys)?;
+    planned(rt, items.as_slice())
+}
+
+/// Gathers and plans the items.
+fn planned(rt: &HostRuntime, items: &[Item]) -> Result<Plan> {
+    let Ok(topology) = Topology::of(rt.alloc(), 1, 1, &[0], 1, 1) else {
+        bail!("out of memory");
+    };
+    let harvest = Harvest::new(rt.alloc(), &topology, ROUND);
+    let mut harvest = harvest.ok().context("out of memory")?;
+    if topology.partitions() > 0 && topology.centres() > 0 {
+        harvest.add(0, 0, items).ok().context("out of memory")?;
+    }
+    let base = VersionLists::new(rt.alloc());
+    let plan = Plan::build(rt.alloc(), &harvest, &base);
+    plan.ok().context("out of memory")
+}
+
+/// Evaluates a plan; how many values it has.
+fn evaluated(rt: &HostRuntime, plan: &Plan) -> Result<usize> {
+    let values = eval_all(rt.alloc(), plan).ok().context("out of memory")?;
+    Ok(values.len())
 }
 
 /// So many sums, one after another, on each of the keys in turn.

@@ -34,7 +34,7 @@ true_is_false : true ≡ false → ⊥
 true_is_false same = absurd cc
 
 -- kinds among which a stop is not stop nobody
-no_stop : (test : Kind → Bool) → test kinds.Stopped ≡ false → (e : Entry) → test e.kind ≡ true → stops_nobody e ≡ true
+pub no_stop : (test : Kind → Bool) → test kinds.Stopped ≡ false → (e : Entry) → test e.kind ≡ true → stops_nobody e ≡ true
 no_stop test none e is = by e.kind is
   where
     by : (kind : Kind) → test kind ≡ true → not (stops kind) ≡ true

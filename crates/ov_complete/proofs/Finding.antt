@@ -21,7 +21,7 @@ use Rattle.ov_history.specs.May.{Setting}
 use Rattle.ov_history.specs.Gives.{gives}
 use Rattle.ov_history.proofs.Past.{at_older}
 use Rattle.ov_laws.proofs.History.Earlier.{at_newest}
-use Rattle.ov_follow.specs.Lines.{Line, followed, followed_all}
+use Rattle.ov_follow.specs.Lines.{Line}
 use Rattle.ov_complete.specs.Stable.{GiveOnly}
 
 -- ---- entries

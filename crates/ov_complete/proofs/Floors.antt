@@ -12,10 +12,8 @@ use Rattle.ov_event.specs.declared.entry.Entry.{Entry}
 use Rattle.ov_event.specs.declared.kind.Kind.{Kind}
 use Rattle.ov_event.specs.declared.kind.Kind.TheVariants as kinds
 use Rattle.ov_event.specs.declared.start.Start.TheVariants.{Look}
-use Rattle.ov_functor.specs.declared.command.Command.{Command}
-use Rattle.ov_functor.specs.declared.command.Command.TheVariants as commands
 use Rattle.ov_history.specs.Past.{History, at, before}
-use Rattle.ov_history.specs.May.{Setting, Guard, MayStart, MayReply, MayResult, StartsAs}
+use Rattle.ov_history.specs.May.{Setting, Guard, MayStart, MayReply, MayResult}
 use Rattle.ov_history.specs.Sessions.{events_in, events_of}
 use Rattle.ov_history.specs.Settlers.{Round, open_round, settled, raised, upper_end, known_below}
 use Rattle.ov_history.proofs.Past.{lawful_at, lawful_before}

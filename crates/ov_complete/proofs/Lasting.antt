@@ -32,7 +32,7 @@ abbrev pub stops_nobody : Entry → Bool
 stops_nobody e = not (stops e.kind)
 
 -- an entry that stops nobody does not stop
-nobody_stops : (e : Entry) → stops_nobody e ≡ true → stops e.kind ≡ false
+pub nobody_stops : (e : Entry) → stops_nobody e ≡ true → stops e.kind ≡ false
 nobody_stops e is = by (stops e.kind) is
   where
     by : (b : Bool) → not b ≡ true → b ≡ false

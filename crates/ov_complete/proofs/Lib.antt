@@ -16,3 +16,4 @@ pub mod Scripts
 pub mod Sessions
 pub mod Settled
 pub mod Visible
+pub mod Wholeness

@@ -1,5 +1,5 @@
 -- How a session stands at its gateway in a lawful history: its commands begin one after another, and at most one is begun and not replied.
-use Rattle.std.proofs.Common.{◌≡◌, ◌==◌, ℕ, ◌+◌, ◌≤◌, ◌<◌, Bool, true, false, Option, Some, List, [], ◌∷◌, ◌++◌, length, refl, sym, ap, subst, ◌∙◌, arith, inl, inr}
+use Rattle.std.proofs.Common.{◌≡◌, ◌==◌, ℕ, ◌+◌, ◌≤◌, ◌<◌, Bool, true, false, Some, List, [], ◌∷◌, ◌++◌, length, refl, sym, ap, subst, ◌∙◌, arith, inl, inr}
 use Rattle.std.specs.Prelude.{if◌then◌else◌, slice_get}
 use Rattle.std.proofs.lemmas.Bool.{eqb-true, eq-eqb, and_parts, or_right}
 use Rattle.std.proofs.lemmas.Bool.Decides.{eqb_tells}
@@ -16,14 +16,13 @@ use Rattle.ov_event.specs.declared.kind.Kind.TheVariants as kinds
 use Rattle.ov_event.specs.declared.start.Start.{Start}
 use Rattle.ov_history.specs.Past.{History, at, before}
 use Rattle.ov_history.specs.Marks.{replies}
-use Rattle.ov_history.specs.Sessions.{events_in, events_by, events_of}
+use Rattle.ov_history.specs.Sessions.{events_in, events_of}
 use Rattle.ov_history.specs.May.{Setting, MayStart, MayReply, GateGuard, Guard, Lawful}
 use Rattle.ov_history.proofs.Past.{at_older, lawful_at}
 use Rattle.ov_history.proofs.Sessions.{of_itself}
 use Rattle.ov_follow.specs.Passes.{is_replied}
 use Rattle.ov_laws.specs.Entries.{RepliedAt, began_by, replied_by}
 use Rattle.ov_laws.proofs.History.Earlier.{at_newest}
-use Rattle.ov_laws.proofs.History.Gathered.{greatest_grows}
 use Rattle.ov_follow.proofs.Replies.{plan_once, of_another}
 use Rattle.ov_laws.proofs.Sessions.Order.{event_under}
 use Rattle.ov_complete.specs.Facts.{HasBegun}

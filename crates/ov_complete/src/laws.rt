@@ -1,17 +1,19 @@
 //! What calm rounds make of a whole world, each the contract of a function that does nothing.
 ghost use Rattle.std.specs.Prelude.{◌≡◌, ℕ, ◌+◌, ◌^◌, ◌≤◌, ◌<◌, true, false, Some, List, [], ◌∷◌, ◌++◌, length, slice_get};
 ghost use Rattle.ov_topology.specs.Shape.{IsShape};
+ghost use Rattle.ov_topology.specs.declared.actor.Actor.{Actor};
 ghost use Rattle.ov_session.specs.Standing.{IsRoster};
 ghost use Rattle.ov_session.specs.declared.plan.SessionPlan.{SessionPlan};
 ghost use Rattle.ov_script.specs.Script.{Content, IsScript};
 ghost use Rattle.ov_script.specs.Sessions.{roster_of, order_of};
 ghost use Rattle.ov_script.specs.declared.order.CommandAt.{CommandAt};
 ghost use Rattle.ov_script.specs.declared.step.Step.{Step};
-ghost use Rattle.ov_history.specs.Past.{History, tally};
+ghost use Rattle.ov_history.specs.Past.{History, stopped, tally};
 ghost use Rattle.ov_history.specs.May.{Setting};
 ghost use Rattle.ov_follow.specs.Lines.{drive};
 ghost use Rattle.ov_follow.specs.Passes.{is_replied};
 ghost use Rattle.ov_follow.specs.Calm.{calm_round, calm, commands};
+ghost use Rattle.ov_follow.specs.Whole.{IsWhole};
 ghost use Rattle.ov_laws.specs.Draws.{moves_clock};
 ghost use Rattle.ov_complete.specs.Facts.{Runs};
 ghost use Rattle.ov_complete.specs.Once.{OnceEach, Calms};
@@ -48,4 +50,13 @@ pub fn all_replied()
 /// a command or published.
 pub fn few_moves()
     ensures { (t : Setting) (schedule : List Step) → IsShape t.topology → length schedule ≤ 100000 → commands t ≤ 4000 → tally moves_clock (calm t (drive t [] schedule)) ≤ 600000 }
+{}
+
+/// Calm rounds stop nobody: each actor has stopped after them exactly where it had before, so a world that is whole before them is whole after
+/// them. In a topology in form the world without an entry is whole, and so it is after calm rounds from there. Nothing is asked of the history.
+pub fn whole_stays()
+    ensures nobody { (t : Setting) (h : History) (actor : Actor) → stopped actor (calm t h) ≡ stopped actor h }
+    ensures stays { (t : Setting) (h : History) → IsWhole t.topology h → IsWhole t.topology (calm t h) }
+    ensures begins { (t : Setting) → IsShape t.topology → IsWhole t.topology [] }
+    ensures made { (t : Setting) → IsShape t.topology → IsWhole t.topology (calm t []) }
 {}

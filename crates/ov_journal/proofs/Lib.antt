@@ -5,6 +5,7 @@ mod LineAgain
 mod Pieces
 pub mod LineCuts
 pub mod Journals
+mod LinesBehind
 mod Writing
 mod Examples
 pub mod Lawful

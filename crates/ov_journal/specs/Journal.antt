@@ -49,6 +49,11 @@ abbrev pub journal_of : List ℕ → Result (List Entry) ℕ
 journal_of [] = Err 1
 journal_of (byte ∷ bytes) = numbered (lines_of (byte ∷ bytes))
 
+-- what a front is read as, where the lines of these entries follow it
+abbrev pub followed : Result (List Entry) ℕ → List Entry → Result (List Entry) ℕ
+followed (Ok entries) more = Ok (entries ++ more)
+followed (Err line) more = Err line
+
 -- what a refusal says is what reading gives, unless memory ran out
 abbrev pub Fails : JournalError → Result (List Entry) ℕ → Type 0
 Fails errors.Memory read = Unit {0}

@@ -65,7 +65,7 @@ fn lines_read(alloc: Global, bytes: &[u8]) -> Result<Vec<Entry>, JournalError>
 }
 
 /// No entries, with room for about as many as the bytes have lines, where memory has it.
-fn room_for(alloc: Global, bytes: &[u8]) -> Sequence<Entry>
+pub(crate) fn room_for(alloc: Global, bytes: &[u8]) -> Sequence<Entry>
     ensures { result ≡ [] }
 {
     match Sequence::with_capacity(alloc, about_lines(bytes)) {
@@ -75,7 +75,7 @@ fn room_for(alloc: Global, bytes: &[u8]) -> Sequence<Entry>
 }
 
 /// About how many lines of entries the bytes are: as many as if all of them were like the first ones. Does not allocate.
-fn about_lines(bytes: &[u8]) -> usize {
+pub(crate) fn about_lines(bytes: &[u8]) -> usize {
     let first = &bytes[..bytes.len().min(FIRST_BYTES)];
     let lines = first.iter().filter(|byte| **byte == b'\n').count();
     let times = bytes.len() / FIRST_BYTES + 1;

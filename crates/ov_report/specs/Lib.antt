@@ -1,3 +1,4 @@
 pub mod Report
 pub mod Replies
 pub mod Seen
+pub mod Summary

@@ -1,5 +1,5 @@
 //! What no text can say: a story without a script, and a sink that fails.
-use crate::{Report, report_to};
+use crate::{Report, report_to, summary_to};
 use ov_io::{MemorySink, ReportError, SureSink};
 use ov_script::Script;
 use ov_world::Story;
@@ -31,5 +31,15 @@ fn a_sink_that_fails_ends_the_report(rt: HostRuntime) -> Result<(), Fail> {
         assert_eq!(rt; out.written(), written.as_bytes());
     }
     assert!(rt; !Report::of(rt.alloc(), &story)?.is_whole());
+    Ok(())
+}
+
+#[test]
+fn a_story_without_a_script_has_a_summary_of_zeros(rt: HostRuntime) -> Result<(), Fail> {
+    let story = Story::empty(rt.alloc());
+    let mut out = SureSink::new(rt.alloc());
+    assert!(rt; summary_to(rt.alloc(), &story, &mut out) == Ok(()));
+    let lines = b"commands 0\ndone 0\naborted 0\nsnapshots 0\nsum 0\n";
+    assert_eq!(rt; out.written(), lines.as_slice());
     Ok(())
 }

@@ -4,8 +4,7 @@ use Rattle.std.proofs.lemmas.Bool.{cases_Bool, eqb-true, eqb-false}
 use Rattle.std.proofs.lemmas.List.{reverse-reverse, length-reverse}
 use Rattle.std.specs.Prelude.{if◌then◌else◌}
 use Rattle.ov_io.specs.Causes.{Agrees}
-use Rattle.ov_topology.specs.Shape.{Shape, gates}
-use Rattle.ov_topology.specs.Read.{topology_of}
+use Rattle.ov_topology.specs.Shape.{IsShape, Shape, gates}
 use Rattle.ov_topology.proofs.Ranges.{topology_is}
 use Rattle.ov_script.specs.Script.{Content, IsScript, script_text}
 use Rattle.ov_script.specs.Schedule.{IsSchedule, schedule_text}
@@ -31,20 +30,19 @@ use Rattle.ov_top.specs.declared.prepare.Third.TheVariants as thirds
 use Rattle.ov_top.specs.Names.{Names, third_word}
 use Rattle.ov_top.specs.Form.{accept_script, accept_third, accept_topology, accepted_as}
 use Rattle.ov_top.specs.Ending.{Ending, at_third, done, ended, history_status, judged, limit, run_of, verdict_status}
-use Rattle.ov_top.specs.Causes.{Told, Counts, Comes, Ends, MeantBy}
+use Rattle.ov_top.specs.Causes.{Told, Counts, Comes, Ends}
 use Rattle.ov_top.specs.Headline.{InForm, InLawfulForm, IsShort, IsWholeAtEnd, NoneRose, TextsInForm, Waits}
-use Rattle.ov_top.proofs.Endings.{at_script_goes, at_third_goes, at_topology_goes}
+use Rattle.ov_top.proofs.Endings.{MeantFor, at_script_goes, at_third_goes, at_topology_goes}
 use Rattle.ov_journal.specs.declared.verdict.Verdict.{Verdict}
 use Rattle.ov_top.proofs.Forms.{journal_said, schedule_said, schedule_says, script_said, script_says, topology_again, topology_takes}
 use Rattle.ov_top.proofs.Headlines.{RanStep, audit_status, ran_where, step_story}
 
 -- a run over a world that is whole at its end replies to every command
-run_replies : (bytes : List ℕ) (topology : Shape) (script : Content) (schedule : List Step) → topology_of bytes ≡ Ok topology → IsScript script → script.gateways ≡ gates topology → IsSchedule schedule
+pub run_replies : (topology : Shape) (script : Content) (schedule : List Step) → IsShape topology → IsScript script → script.gateways ≡ gates topology → IsSchedule schedule
     → IsWhole topology (run_of topology script schedule) → length (run_of topology script schedule) < 2 ^ 64
     → all_replied (setting_by topology script) (run_of topology script schedule) ≡ true
-run_replies bytes topology script schedule read form gateways steps whole short =
+run_replies topology script schedule shape form gateways steps whole short =
     let t = setting_by topology script in
-    let shape = topology_is bytes topology read in
     calm_replies t (order_of script.lines) (drive t [] schedule) (record {
       run = (shape, drive_lawful t schedule [] shape tt);
       roster = script_roster script form;
@@ -80,15 +78,15 @@ step_waits told words end story r same short one =
       script = r.script;
       has = record { topology_is = ap (λ (x : Story). x.topology) is; script_is = ap (λ (x : Story). x.script) is };
       waiting = rw back waiting;
-      broken = λ whole. let all = run_replies r.comes.files.topology r.topology r.script r.schedule (topology_takes r.comes.files.topology r.topology r.topology_is) script.form script.gates_are schedule.0
+      broken = λ whole. let all = run_replies r.topology r.script r.schedule (topology_is r.comes.files.topology r.topology (topology_takes r.comes.files.topology r.topology r.topology_is)) script.form script.gates_are schedule.0
           (rw back at whole) few in
           absurd (let bad : true ≡ false = sym all ∙ waiting in cc);
     }
 
 -- at 1 some command is not replied, and the world is not whole
-pub waits : (told : Told) (counts now : Counts) (words : Option Names) (status : ℕ) (story : Story) (old new : Option (List ℕ)) → Ends told counts now words status story old new → IsShort story
+pub waits_files : (told : Told) (counts now : Counts) (words : Option Names) (status : ℕ) (story : Story) (old new : Option (List ℕ)) → Ends (MeantFor told counts now words) status story old new → IsShort story
     → status ≡ 1 → Waits story
-waits told counts now words status story old new e short one =
+waits_files told counts now words status story old new e short one =
     let eight : status ≢ 8 = λ h. omega (arith, h, one) in
     let nine : status ≢ 9 = λ h. omega (arith, h, one) in
     let is : e.end.status ≡ 1 = sym (e.came.status_is eight nine) ∙ one in
@@ -144,7 +142,7 @@ judge_meant told end f comes =
     ∙ ap (judged f.texts.shape f.texts.script f.entries) lawful
 
 -- what is meant with files in form of which no read failed is a run
-run_meant : (told : Told) (counts now : Counts) (words : Option Names) (end : Ending) (f : InForm told words) → NoneRose counts now words → MeantBy told counts now words end
+run_meant : (told : Told) (counts now : Counts) (words : Option Names) (end : Ending) (f : InForm told words) → NoneRose counts now words → MeantFor told counts now words end
     → end ≡ done f.journal f.texts.shape f.texts.script f.schedule
 run_meant told counts now None end f none meant = absurd (let bad = f.words_are in cc)
 run_meant told counts now (Some names) end f none (inr faulted) = absurd (none names faulted.word refl faulted.rose)
@@ -153,7 +151,7 @@ run_meant told counts now (Some names) end f none (inl comes) =
     step_meant told end f (subst (λ (n : Names). Comes told n end) same comes)
 
 -- what is meant with files in form of which no read failed is the verdict that the entries are lawful
-audit_meant : (told : Told) (counts now : Counts) (words : Option Names) (end : Ending) (f : InLawfulForm told words) → NoneRose counts now words → MeantBy told counts now words end
+audit_meant : (told : Told) (counts now : Counts) (words : Option Names) (end : Ending) (f : InLawfulForm told words) → NoneRose counts now words → MeantFor told counts now words end
     → end ≡ judged f.texts.shape f.texts.script f.entries verdicts.Lawful
 audit_meant told counts now None end f none meant = absurd (let bad = f.words_are in cc)
 audit_meant told counts now (Some names) end f none (inr faulted) = absurd (none names faulted.word refl faulted.rose)
@@ -165,16 +163,17 @@ low_or_one : (b : Bool) → ◌≡◌ {A = ℕ} (if b then 0 else 1) 0 ⊎ ◌�
 low_or_one true = inl refl
 low_or_one false = inr refl
 
-is_or_not : (n m : ℕ) → (n ≡ m) ⊎ (n ≢ m)
+-- two numbers are equal or not
+pub is_or_not : (n m : ℕ) → (n ≡ m) ⊎ (n ≢ m)
 is_or_not n m = elim (cases_Bool (n == m)) [
   | inl same ↦ inl (eqb-true n m same)
   | inr differs ↦ inr (eqb-false n m differs)
 ]
 
 -- with words and files in form, no risen count and a world that is whole at its end, the status of `step` is 0 or, out of memory, 9
-pub completes : (told : Told) (counts now : Counts) (words : Option Names) (status : ℕ) (story : Story) (old new : Option (List ℕ)) → Ends told counts now words status story old new → IsShort story
+pub completes_files : (told : Told) (counts now : Counts) (words : Option Names) (status : ℕ) (story : Story) (old new : Option (List ℕ)) → Ends (MeantFor told counts now words) status story old new → IsShort story
     → InForm told words → NoneRose counts now words → status ≢ 8 → IsWholeAtEnd story → (status ≡ 0) ⊎ (status ≡ 9)
-completes told counts now words status story old new e short f none eight whole =
+completes_files told counts now words status story old new e short f none eight whole =
     elim (is_or_not status 9) [
       | inl nine ↦ inr nine
       | inr nine ↦
@@ -182,14 +181,14 @@ completes told counts now words status story old new e short f none eight whole 
           e.came.status_is eight nine ∙ ap (λ (x : Ending). x.status) (run_meant told counts now words e.end f none e.meant) in
           elim (low_or_one (all_replied (setting_by f.texts.shape f.texts.script) (run_of f.texts.shape f.texts.script f.schedule))) [
             | inl zero ↦ inl (is ∙ zero)
-            | inr one ↦ let w = waits told counts now words status story old new e short (is ∙ one) in absurd (w.broken (whole w.topology w.has.topology_is))
+            | inr one ↦ let w = waits_files told counts now words status story old new e short (is ∙ one) in absurd (w.broken (whole w.topology w.has.topology_is))
           ]
     ]
 
 -- with words and files in form, a journal of lawful entries and no risen count, the status of `audit` is 0 or, out of memory, 9
-pub accepts : (told : Told) (counts now : Counts) (words : Option Names) (status : ℕ) (story : Story) (old new : Option (List ℕ)) → Ends told counts now words status story old new
+pub accepts_files : (told : Told) (counts now : Counts) (words : Option Names) (status : ℕ) (story : Story) (old new : Option (List ℕ)) → Ends (MeantFor told counts now words) status story old new
     → InLawfulForm told words → NoneRose counts now words → status ≢ 8 → (status ≡ 0) ⊎ (status ≡ 9)
-accepts told counts now words status story old new e f none eight = elim (is_or_not status 9) [
+accepts_files told counts now words status story old new e f none eight = elim (is_or_not status 9) [
   | inl nine ↦ inr nine
   | inr nine ↦ inl (e.came.status_is eight nine ∙ ap (λ (x : Ending). x.status) (audit_meant told counts now words e.end f none e.meant))
 ]

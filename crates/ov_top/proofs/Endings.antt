@@ -24,10 +24,15 @@ use Rattle.ov_top.specs.declared.prepare.Third.{Third}
 use Rattle.ov_top.specs.declared.prepare.Third.TheVariants as thirds
 use Rattle.ov_top.specs.Names.{Names, name_at, third_word}
 use Rattle.ov_top.specs.Form.{accept_topology, accept_script, accept_third, form_status, form_text}
-use Rattle.ov_top.specs.Ending.{Files, Ending, IsPartOf, IsRightOn, IsVerdict, accepted, at_third, at_script, at_topology, ended, limit, nothing, read_fault_text, refused, story_of, too_long_text, with_topology, within}
+use Rattle.ov_top.specs.Ending.{Files, Ending, IsPartOf, IsRightOn, IsVerdict, accepted, at_third, at_script, at_topology, ended, limit, nothing, read_fault_text, refused, story_of, too_long_text, usage_text, with_topology, within}
 use Rattle.ov_top.specs.Causes.{Told, Counts, Agree, Meant, reached, reached_third}
 use Rattle.ov_top.specs.Reading.{Accepts, Becomes, Reads, ReadsBy, Refuses, RefusesRead}
 use Rattle.ov_top.proofs.Forms.{topology_takes}
+
+-- what is meant with these files; without any it is the usage text
+abbrev pub MeantFor : Told → Counts → Counts → Option Names → Ending → Type 0
+MeantFor told counts now None end = refused 2 usage_text nothing ≡ end
+MeantFor told counts now (Some names) end = Meant told counts now names end
 
 -- bytes that agree with what is told, whatever that is
 pub some_bytes : Option (List ℕ) → List ℕ

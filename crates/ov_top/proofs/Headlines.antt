@@ -27,8 +27,9 @@ use Rattle.ov_top.specs.declared.refusal.FileWord.TheVariants as word
 use Rattle.ov_top.specs.Names.{IsAudit, Names, name_at, third_word}
 use Rattle.ov_top.specs.Form.{accept_topology, accept_script, accept_schedule, accept_third, form_status, form_text}
 use Rattle.ov_top.specs.Ending.{Files, Ending, IsRightOn, accepted, at_third, at_script, at_topology, done, ended, history_status, history_text, judged, limit, nothing, refused, run_of, story_of, story_with, too_long_text, verdict_status, verdict_text, with_topology, within}
-use Rattle.ov_top.specs.Causes.{Told, Counts, Comes, Ends, MeantBy}
-use Rattle.ov_top.specs.Headline.{AllOnce, Audited, Did, IsRight, JournalRefused, Performed, Read, ReadFault}
+use Rattle.ov_top.specs.Causes.{Told, Counts, Comes, Ends}
+use Rattle.ov_top.specs.Headline.{AllOnce, Audited, IsRight, JournalRefused, Performed, Read, ReadFault}
+use Rattle.ov_top.proofs.Endings.{MeantFor}
 use Rattle.ov_top.proofs.Running.{right_has}
 use Rattle.ov_top.proofs.Forms.{SaysJournal, form_stops, journal_faults, journal_says, schedule_says, script_not_six, script_says, third_faults, third_journal, third_not_six, third_schedule, topology_not_six, topology_takes}
 
@@ -215,7 +216,7 @@ ran_as told names end comes ran = by names.task refl
         })
 
 -- an end that is neither usage nor a failed read nor another refusal is that of a task, or at 6 of a journal off its grammar
-pub came_to : (told : Told) (counts now : Counts) (words : Option Names) (end : Ending) → MeantBy told counts now words end → (end.status ≤ 1) ⊎ (end.status ≡ 6)
+pub came_to : (told : Told) (counts now : Counts) (words : Option Names) (end : Ending) → MeantFor told counts now words end → (end.status ≤ 1) ⊎ (end.status ≡ 6)
     → (RanStep told words end ⊎ RanAudit told words end) ⊎ (Unread told words end × (end.status ≡ 6))
 came_to told counts now None end meant some = absurd (let two : 2 ≡ end.status = ap (λ (e : Ending). e.status) meant in not_both two some)
   where
@@ -238,7 +239,7 @@ came_to told counts now (Some names) end (inl comes) some =
     by stopped (inr six) = inr (record { names = names; words_are = refl; comes = comes; off = stopped.six six }, six)
 
 -- an end with a low status is that of a task
-pub ran_where : (told : Told) (counts now : Counts) (words : Option Names) (end : Ending) → MeantBy told counts now words end → end.status ≤ 1 → RanStep told words end ⊎ RanAudit told words end
+pub ran_where : (told : Told) (counts now : Counts) (words : Option Names) (end : Ending) → MeantFor told counts now words end → end.status ≤ 1 → RanStep told words end ⊎ RanAudit told words end
 ran_where told counts now words end meant low = elim (came_to told counts now words end meant (inl low)) [
   | inl ran ↦ ran
   | inr unread ↦ absurd (omega (arith, unread.1, low))
@@ -335,10 +336,10 @@ low_verdict (verdicts.Refused number) low = absurd (omega (arith, low))
 pub audit_status : (told : Told) (words : Option Names) (end : Ending) (r : RanAudit told words end) → verdict_status r.comes.verdict ≡ end.status
 audit_status told words end r = ap (λ (e : Ending). e.status) r.is
 
--- where the status is low, what was asked for was done
-pub did : (told : Told) (counts now : Counts) (words : Option Names) (status : ℕ) (story : Story) (old new : Option (List ℕ)) → Ends told counts now words status story old new → status ≤ 1
-    → Did told words story old new
-did told counts now words status story old new e low =
+-- where the status is low, what was asked for with the files was done
+pub did_files : (told : Told) (counts now : Counts) (words : Option Names) (status : ℕ) (story : Story) (old new : Option (List ℕ)) → Ends (MeantFor told counts now words) status story old new → status ≤ 1
+    → Performed told words story old new ⊎ Audited told words story old new
+did_files told counts now words status story old new e low =
     let eight : status ≢ 8 = λ h. omega (arith, h, low) in
     let nine : status ≢ 9 = λ h. omega (arith, h, low) in
     let is = e.came.status_is eight nine in
@@ -352,10 +353,10 @@ did told counts now words status story old new e low =
 -- ---- status 6
 
 -- where the status is 6, the journal is refused by its cause
-pub journal_refused : (told : Told) (counts now : Counts) (words : Option Names) (status : ℕ) (story : Story) (old new : Option (List ℕ)) → Ends told counts now words status story old new → status ≡ 6
+pub refused_files : (told : Told) (counts now : Counts) (words : Option Names) (status : ℕ) (story : Story) (old new : Option (List ℕ)) → Ends (MeantFor told counts now words) status story old new → status ≡ 6
     → JournalRefused told words story old new
 unfolding read_texts
-journal_refused told counts now words status story old new e six =
+refused_files told counts now words status story old new e six =
     let eight : status ≢ 8 = λ h. omega (arith, h, six) in
     let nine : status ≢ 9 = λ h. omega (arith, h, six) in
     let is : e.end.status ≡ 6 = sym (e.came.status_is eight nine) ∙ six in
@@ -402,10 +403,12 @@ journal_refused told counts now words status story old new e six =
 
 -- ---- each command once
 
-same_some : {A : Type 0} (o : Option A) (x y : A) → o ≡ Some x → o ≡ Some y → x ≡ y
+-- what is there is one thing
+pub same_some : {A : Type 0} (o : Option A) (x y : A) → o ≡ Some x → o ≡ Some y → x ≡ y
 same_some {A = A} o x y one two = let both : ◌≡◌ {A = Option A} (Some x) (Some y) = sym one ∙ two in cc
 
-same_all : (one topology : Shape) (first script : Content) (run h : History) → topology ≡ one → script ≡ first → h ≡ run → all_replied (setting_by one first) run ≡ true
+-- that all is replied is said of equal scripts and histories alike
+pub same_all : (one topology : Shape) (first script : Content) (run h : History) → topology ≡ one → script ≡ first → h ≡ run → all_replied (setting_by one first) run ≡ true
     → all_replied (setting_by topology script) h ≡ true
 same_all one topology first script run h a b c all =
     subst (λ (t : Shape). all_replied (setting_by t script) h ≡ true) (sym a)
@@ -419,9 +422,9 @@ is_audit : (words : Option Names) (names : Names) → words ≡ Some names → n
 is_audit words names are task = rw (are, task) tt
 
 -- at 0 of `step` each command began in exactly one entry and was replied in exactly one
-pub all_are_once : (told : Told) (counts now : Counts) (words : Option Names) (status : ℕ) (story : Story) (old new : Option (List ℕ)) → Ends told counts now words status story old new
+pub once_files : (told : Told) (counts now : Counts) (words : Option Names) (status : ℕ) (story : Story) (old new : Option (List ℕ)) → Ends (MeantFor told counts now words) status story old new
     → ((IsAudit words → status ≡ 0) → IsRight story) → status ≡ 0 → ¬ IsAudit words → AllOnce story
-all_are_once told counts now words status story old new e right zero other topology script has s c plan session less =
+once_files told counts now words status story old new e right zero other topology script has s c plan session less =
     let eight : status ≢ 8 = λ h. omega (arith, h, zero) in
     let nine : status ≢ 9 = λ h. omega (arith, h, zero) in
     let is = e.came.status_is eight nine in
@@ -442,9 +445,9 @@ all_are_once told counts now words status story old new e right zero other topol
 -- ---- status 7
 
 -- where the status is 7, a read failed and was told
-pub read_faulted : (told : Told) (counts now : Counts) (words : Option Names) (status : ℕ) (story : Story) (old new : Option (List ℕ)) → Ends told counts now words status story old new → status ≡ 7
+pub read_files : (told : Told) (counts now : Counts) (words : Option Names) (status : ℕ) (story : Story) (old new : Option (List ℕ)) → Ends (MeantFor told counts now words) status story old new → status ≡ 7
     → ReadFault counts now words old new
-read_faulted told counts now words status story old new e seven =
+read_files told counts now words status story old new e seven =
     let eight : status ≢ 8 = λ h. omega (arith, h, seven) in
     let nine : status ≢ 9 = λ h. omega (arith, h, seven) in
     by words e.meant (e.came.wrote eight nine) (sym seven ∙ e.came.status_is eight nine)
@@ -460,7 +463,7 @@ read_faulted told counts now words status story old new e seven =
         omega (arith, low, same, is)
     ran_not names (inr r) is = verdict_not r.comes.verdict (is ∙ sym (audit_status told (Some names) e.end r))
 
-    by : (names : Option Names) → MeantBy told counts now names e.end → Wrote old new e.end.text → 7 ≡ e.end.status → ReadFault counts now names old new
+    by : (names : Option Names) → MeantFor told counts now names e.end → Wrote old new e.end.text → 7 ≡ e.end.status → ReadFault counts now names old new
     by None meant wrote is = absurd (let two : 2 ≡ e.end.status = ap (λ (x : Ending). x.status) meant in omega (arith, two, is))
     by (Some names) (inl comes) wrote is = elim (work_ends names comes.files comes.verdict e.end comes.is) [
       | inl stopped ↦ absurd (stopped.not_read (sym is))

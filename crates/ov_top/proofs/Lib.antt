@@ -6,4 +6,5 @@ pub mod Running
 pub mod Forms
 pub mod Reports
 pub mod Headlines
+pub mod Orders
 pub mod Completing

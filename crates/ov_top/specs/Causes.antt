@@ -8,9 +8,11 @@ use Rattle.ov_journal.specs.declared.verdict.Verdict.{Verdict}
 use Rattle.ov_top.specs.declared.refusal.FileWord.{FileWord}
 use Rattle.ov_top.specs.declared.refusal.FileWord.TheVariants as word
 use Rattle.ov_top.specs.declared.refusal.FormFault.{FormFault}
-use Rattle.ov_top.specs.Names.{Names, name_at}
+use Rattle.ov_top.specs.declared.words.Order.{Order}
+use Rattle.ov_top.specs.declared.words.Order.TheVariants as orders
+use Rattle.ov_top.specs.Names.{Names, audit_names, name_at, step_names}
 use Rattle.ov_top.specs.Form.{accept_topology, accept_script}
-use Rattle.ov_top.specs.Ending.{Files, Ending, IsPartOf, IsVerdict, at_topology, limit, nothing, read_fault_text, refused, story_of, usage_text, with_topology}
+use Rattle.ov_top.specs.Ending.{Files, Ending, IsPartOf, IsVerdict, at_topology, limit, made, nothing, read_fault_text, refused, story_of, usage_text, with_topology}
 
 -- what a shelf tells of each name
 abbrev pub Told : Type 0
@@ -69,10 +71,16 @@ pub record Faulted (told : Told) (counts now : Counts) (names : Names) (end : En
 abbrev pub Meant : Told → Counts → Counts → Names → Ending → Type 0
 Meant told counts now names end = Comes told names end ⊎ Faulted told counts now names end
 
--- what is meant with these words; without file words it is the usage text
-abbrev pub MeantBy : Told → Counts → Counts → Option Names → Ending → Type 0
+-- what is meant with an order: the run of the made script, or what is meant with the files
+abbrev pub MeantWith : Told → Counts → Counts → Order → Ending → Type 0
+MeantWith told counts now (orders.Step journal topology script schedule) end = Meant told counts now (step_names journal topology script schedule) end
+MeantWith told counts now (orders.Audit topology script journal) end = Meant told counts now (audit_names topology script journal) end
+MeantWith told counts now (orders.Make number commands) end = made number commands ≡ end
+
+-- what is meant with words that ask for this; where they are no order it is the usage text
+abbrev pub MeantBy : Told → Counts → Counts → Option Order → Ending → Type 0
 MeantBy told counts now None end = refused 2 usage_text nothing ≡ end
-MeantBy told counts now (Some names) end = Meant told counts now names end
+MeantBy told counts now (Some order) end = MeantWith told counts now order end
 
 -- ---- what was done
 
@@ -85,10 +93,10 @@ pub record EndsAs (end : Ending) (status : ℕ) (story : Story) (before after : 
   pub story_is : status ≢ 9 → story ≡ end.story
   pub part : IsPartOf story end.story
 
--- How a call ended: as it was meant to.
-pub record Ends (told : Told) (counts now : Counts) (names : Option Names) (status : ℕ) (story : Story) (before after : Option (List ℕ)) : Type 0 where
+-- How a call ended: as one of the ends that are meant.
+pub record Ends (Means : Ending → Type 0) (status : ℕ) (story : Story) (before after : Option (List ℕ)) : Type 0 where
   pub end : Ending
-  pub meant : MeantBy told counts now names end
+  pub meant : Means end
   pub came : EndsAs end status story before after
 
 -- ---- the writing half

@@ -11,7 +11,9 @@ use Rattle.ov_follow.specs.Lines.{drive}
 use Rattle.ov_follow.specs.Calm.{calm, all_replied}
 use Rattle.ov_world.specs.World.{setting_by}
 use Rattle.ov_world.specs.declared.story.Story.{Story}
+use Rattle.ov_make.specs.Made.{made_script, made_topology}
 use Rattle.ov_report.specs.Report.{Line, is_answered, report_text}
+use Rattle.ov_report.specs.Summary.{summary_of, summary_text}
 use Rattle.ov_event.specs.declared.entry.Entry.{Entry}
 use Rattle.ov_journal.specs.Journal.{journal_text}
 use Rattle.ov_journal.specs.Audit.{Judges}
@@ -118,6 +120,22 @@ reported journal topology script h = record { status = history_status topology s
 -- the end of a schedule that was followed and calmed
 abbrev pub done : Bool → Shape → Content → List Step → Ending
 done journal topology script schedule = reported journal topology script (run_of topology script schedule)
+
+-- the end of a script that was run over the empty schedule: its summary
+abbrev pub summed : Shape → Content → Ending
+summed topology script = record {
+  status = 0;
+  text = summary_text (summary_of (Some script) (reverse (run_of topology script [])));
+  story = story_of topology script (run_of topology script []);
+}
+
+-- the history of a made script
+abbrev pub made_run : ℕ → ℕ → History
+made_run number commands = run_of made_topology (made_script number commands) []
+
+-- the end of a made script that was run
+abbrev pub made : ℕ → ℕ → Ending
+made number commands = summed made_topology (made_script number commands)
 
 -- the status of a verdict
 abbrev pub verdict_status : Verdict → ℕ

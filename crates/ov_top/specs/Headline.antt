@@ -29,14 +29,18 @@ use Rattle.ov_complete.specs.Once.{OnceEach}
 use Rattle.ov_world.specs.World.{setting_by}
 use Rattle.ov_world.specs.declared.story.Story.{Story}
 use Rattle.ov_world.specs.Judging.{FirstRefused}
+use Rattle.ov_make.specs.Made.{made_script, made_topology}
+use Rattle.ov_report.specs.Summary.{summary_of, summary_text}
 use Rattle.ov_journal.specs.Journal.{journal_of, journal_text}
 use Rattle.ov_journal.specs.Line.{HasLine}
 use Rattle.ov_journal.specs.declared.verdict.Verdict.TheVariants as verdicts
 use Rattle.ov_top.specs.declared.names.Task.TheVariants.{Follow, Judge}
 use Rattle.ov_top.specs.declared.refusal.FileWord.{FileWord}
 use Rattle.ov_top.specs.declared.refusal.FileWord.TheVariants as word
-use Rattle.ov_top.specs.Names.{Names, name_at}
-use Rattle.ov_top.specs.Ending.{Files, history_text, limit, read_fault_text, run_of, verdict_text}
+use Rattle.ov_top.specs.declared.words.Order.{Order}
+use Rattle.ov_top.specs.declared.words.Order.TheVariants.{Make}
+use Rattle.ov_top.specs.Names.{Names, files_of, name_at}
+use Rattle.ov_top.specs.Ending.{Files, history_text, limit, made_run, read_fault_text, run_of, verdict_text}
 use Rattle.ov_top.specs.Causes.{Told, Counts, Agree}
 
 -- ---- at every status
@@ -117,9 +121,21 @@ pub record Audited (told : Told) (words : Option Names) (story : Story) (before 
   pub lawful : Lawful (setting_by read.topology read.script) (reverse story.entries)
   pub wrote : Wrote before after (verdict_text (length story.entries) verdicts.Lawful)
 
+-- What `make` did: the story is that of the made script, whose topology, lines and history the number and the number of commands say, and its summary
+-- was written.
+pub record Summed (order : Option Order) (story : Story) (before after : Option (List ℕ)) : Type 0 where
+  pub number : ℕ
+  pub commands : ℕ
+  pub order_is : order ≡ Some (Make number commands)
+  pub topology : story.topology ≡ Some made_topology
+  pub script : story.script ≡ Some (made_script number commands)
+  pub entries : story.entries ≡ reverse (made_run number commands)
+  pub wrote : Wrote before after (summary_text (summary_of story.script story.entries))
+
 -- what was asked for was done
-abbrev pub Did : Told → Option Names → Story → Option (List ℕ) → Option (List ℕ) → Type 0
-Did told words story before after = Performed told words story before after ⊎ Audited told words story before after
+abbrev pub Did : Told → Option Order → Story → Option (List ℕ) → Option (List ℕ) → Type 0
+Did told order story before after =
+    Performed told (files_of order) story before after ⊎ (Audited told (files_of order) story before after ⊎ Summed order story before after)
 
 -- A story with a topology and a script, which are these.
 pub record Has (story : Story) (topology : Shape) (script : Content) : Type 0 where

@@ -1,4 +1,4 @@
--- The command of clap that parses the words behind `step`, and the one behind `audit`.
+-- The command of clap that parses the words behind `step`, and the one behind `audit` and behind `make`.
 use Rattle.std.specs.Prelude.{ℕ, Bool, true, List, [], Option, Some, codes, map, if◌then◌else◌, option_map, unwrap_or}
 use Rattle.std.specs.Borrow.{Bor}
 use Rattle.clap.specs.Walk.{Rule}
@@ -13,7 +13,7 @@ files_rule = record (new_rule (codes "files")) { action = Some Append }
 abbrev pub journal_rule : Rule
 journal_rule = record (new_rule (codes "journal")) { long = Some (codes "journal"); action = Some SetTrue }
 
--- the command that takes files alone
+-- the command that takes files alone, or the numbers of `make`
 abbrev pub files_app : App
 files_app = with_rule (on_top (λ s. record s { no_binary_name = true; disable_help_flag = true; disable_version_flag = true }) (new_app (codes "oceanvista"))) files_rule
 

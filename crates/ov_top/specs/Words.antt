@@ -1,9 +1,10 @@
 -- The words of the command line, by their bytes.
-use Rattle.std.specs.Prelude.{ℕ, Bool, true, false, ◌==◌, List, [], ◌∷◌, codes, Option, Some, None, if◌then◌else◌}
+use Rattle.std.specs.Prelude.{ℕ, ◌≤◌, Bool, true, false, ◌==◌, List, [], ◌∷◌, codes, Option, Some, None, if◌then◌else◌}
 use Rattle.std.specs.Str.{bytes_eq}
+use Rattle.ov_base.specs.Number.{number_of, number_within}
 use Rattle.ov_base.specs.Word.{◌>>=◌}
 use Rattle.ov_top.specs.declared.words.Order.{Order}
-use Rattle.ov_top.specs.declared.words.Order.TheVariants.{Step, Audit}
+use Rattle.ov_top.specs.declared.words.Order.TheVariants.{Step, Audit, Make}
 
 -- whether a word begins with `-` and goes on
 abbrev pub is_option : List ℕ → Bool
@@ -57,9 +58,33 @@ step_order_of words = said_from true false words >>= λ said. step_by said.journ
 abbrev pub audit_order_of : List (List ℕ) → Option Order
 audit_order_of words = said_from false false words >>= λ said. audit_by said.files
 
+-- the order to make a script: exactly a number below 2^64, and a number of commands from 2 to 4,000
+abbrev pub make_by : List (List ℕ) → Option Order
+make_by (number ∷ commands ∷ []) = do
+  n ← number_of number
+  c ← number_within 2 4000 commands
+  Some (Make n c)
+make_by words = None
+
+-- what the words behind `make` ask for
+abbrev pub make_order_of : List (List ℕ) → Option Order
+make_order_of words = said_from false false words >>= λ said. make_by said.files
+
 -- what the words ask for
 abbrev pub order_of : List (List ℕ) → Option Order
 order_of [] = None
 order_of (command ∷ words) =
     if bytes_eq command (codes "step") then step_order_of words
-    else (if bytes_eq command (codes "audit") then audit_order_of words else None)
+    else (if bytes_eq command (codes "audit") then audit_order_of words
+    else (if bytes_eq command (codes "make") then make_order_of words else None))
+
+-- a made script has from 2 to 4,000 commands
+abbrev pub IsFormed : Order → Type 0
+IsFormed (Step journal topology script schedule) = Unit {0}
+IsFormed (Audit topology script journal) = Unit {0}
+IsFormed (Make number commands) = (2 ≤ commands) × (commands ≤ 4000)
+
+-- where there is an order, it is in form
+abbrev pub AreFormed : Option Order → Type 0
+AreFormed None = Unit {0}
+AreFormed (Some order) = IsFormed order

@@ -13,7 +13,7 @@ use crate::refusal::{FileWord, FormFault, Refusal};
 use ov_base::Sequence;
 use ov_event::Entry;
 use ov_io::{Shelf, ShelfError};
-use ov_journal::{JournalError, read_journal};
+use ov_journal::{JournalError, read_journal_from};
 use ov_script::{Schedule, ScheduleError, Script, ScriptError};
 use ov_topology::{Topology, TopologyError};
 use std::alloc::Global;
@@ -74,7 +74,7 @@ pub(crate) fn read_third<F: Shelf>(
         Task::Judge => FileWord::Journal,
     };
     let bytes = read_file(alloc, names, word, shelf)?;
-    third_of(alloc, names.task, bytes.as_slice())
+    third_of(alloc, names.task, bytes)
 }
 
 /// Reads one file, within its limit.
@@ -157,11 +157,11 @@ fn script_refusal(error: ScriptError) -> Refusal
 }
 
 /// The third text of the bytes, or why they are refused.
-fn third_of(alloc: Global, task: Task, bytes: &[u8]) -> Result<Third, Refusal>
-    ensures { AcceptsBy result (accept_third task bytes.now) }
+fn third_of(alloc: Global, task: Task, bytes: Vec<u8>) -> Result<Third, Refusal>
+    ensures { AcceptsBy result (accept_third task bytes.items) }
 {
     match task {
-        Task::Follow { .. } => Ok(Third::Schedule(schedule_of(alloc, bytes)?)),
+        Task::Follow { .. } => Ok(Third::Schedule(schedule_of(alloc, bytes.as_slice())?)),
         Task::Judge => Ok(Third::Journal(journal_of(alloc, bytes)?)),
     }
 }
@@ -185,11 +185,11 @@ fn schedule_refusal(error: ScheduleError) -> Refusal
     }
 }
 
-/// The entries of the journal of the bytes, or why they are refused.
-fn journal_of(alloc: Global, bytes: &[u8]) -> Result<Sequence<Entry>, Refusal>
-    ensures { AcceptsBy result (accept_journal bytes.now) }
+/// The entries of the journal of the bytes, or why they are refused. The bytes are given back while they are read.
+fn journal_of(alloc: Global, bytes: Vec<u8>) -> Result<Sequence<Entry>, Refusal>
+    ensures { AcceptsBy result (accept_journal bytes.items) }
 {
-    match read_journal(alloc, bytes) {
+    match read_journal_from(alloc, bytes) {
         Ok(entries) => Ok(Sequence::from_vec(entries)),
         Err(error) => Err(journal_refusal(error)),
     }

@@ -3,7 +3,7 @@
 //!
 //! The promise to `main`: [`stepped_top`] reads the files in the order of work, follows the schedule over a
 //! world of the topology and the script, calms the world and writes the report, or ends with the named status
-//! of the first cause that applies. Its clauses carry the headline of the store: every reply is what executing
+//! of the first cause that applies; or it judges a journal, or runs a made script and writes its summary. Its clauses carry the headline of the store: every reply is what executing
 //! all begun transactions one at a time in the order of their versions gives.
 //!
 //! Start with `specs/Headline.antt`, the headline in the store's own words, and `specs/Ending.antt`, the order
@@ -11,6 +11,7 @@
 #![tactic(auto)]
 
 mod file;
+mod make;
 mod names;
 mod perform;
 mod prepare;
@@ -20,6 +21,7 @@ mod step;
 mod words;
 mod write;
 
+pub use ov_make::make_script;
 pub use ov_world::Story;
 pub use step::stepped_top;
 pub use words::{FileName, Order, command_of};

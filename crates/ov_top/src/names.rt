@@ -1,9 +1,9 @@
 //! What the words ask for: what is to be done, and the words that name the files for it.
 ghost use Rattle.std.specs.Prelude.{◌≡◌};
-ghost use Rattle.ov_top.specs.Names.{name_at, names_in, names_seen};
+ghost use Rattle.ov_top.specs.Names.{name_at, names_seen};
 
 use crate::refusal::FileWord;
-use crate::words::Order;
+use crate::words::FileName;
 
 /// What is to be done with the files.
 #[derive(Clone, Copy, Debug)]
@@ -26,32 +26,22 @@ pub(crate) struct FileNames<'a> {
     pub(crate) third: &'a str,
 }
 
-/// What an order asks for.
-pub(crate) fn names_of(order: &Order) -> FileNames<'_>
-    ensures { names_seen result ≡ names_in order.now }
-{
-    match order {
-        Order::Step {
-            journal,
-            topology,
-            script,
-            schedule,
-        } => FileNames {
-            task: Task::Follow { journal: *journal },
+impl<'a> FileNames<'a> {
+    /// That this is to be done with these files.
+    pub(crate) fn new(
+        task: Task,
+        topology: &'a FileName,
+        script: &'a FileName,
+        third: &'a FileName,
+    ) -> FileNames<'a>
+        ensures { names_seen result ≡ record { task = task; topology = topology.now; script = script.now; third = third.now } }
+    {
+        FileNames {
+            task,
             topology: topology.as_str(),
             script: script.as_str(),
-            third: schedule.as_str(),
-        },
-        Order::Audit {
-            topology,
-            script,
-            journal,
-        } => FileNames {
-            task: Task::Judge,
-            topology: topology.as_str(),
-            script: script.as_str(),
-            third: journal.as_str(),
-        },
+            third: third.as_str(),
+        }
     }
 }
 

@@ -6,11 +6,11 @@ ghost use Rattle.clap.specs.Matches.{found_of};
 ghost use Rattle.clap.specs.Simple.{app_of, matches_of};
 ghost use Rattle.clap.specs.Walk.{rows_of, rule_of};
 ghost use Rattle.ov_top.specs.Parsing.{words_app, files_rule, journal_rule, files_given};
-ghost use Rattle.ov_top.specs.Words.{order_of, step_order_of, audit_order_of, step_by, audit_by};
+ghost use Rattle.ov_top.specs.Words.{AreFormed, order_of, step_order_of, audit_order_of, make_order_of, step_by, audit_by, make_by};
 
 use clap::error::ErrorKind;
 use clap::{Arg, ArgAction, ArgMatches, Command, Error};
-use ov_base::Memory;
+use ov_base::{Memory, parse_number, parse_number_within};
 use std::alloc::{AllocError, Global};
 use std::marker::Model;
 
@@ -61,13 +61,26 @@ pub enum Order {
         script: FileName,
         journal: FileName,
     },
+    /// To run the made script of this number.
+    Make {
+        number: u64,
+        /// How many commands it has, from 2 to 4,000.
+        commands: u32,
+    },
 }
 
+/// The fewest commands of a made script.
+const FEWEST_COMMANDS: u64 = 2;
+
+/// The most commands of a made script.
+const MOST_COMMANDS: u64 = 4000;
+
 /// What the words ask for: the first one is the command, and the words behind it are read from left to right. Until a word `--` a word that
-/// begins with `-` is refused, but for `-` itself and, behind `step`, one `--journal`; the first `--` is dropped; all others name files, of which each
-/// command takes three. None exactly where the words are not of that form. The only error is out of memory.
+/// begins with `-` is refused, but for `-` itself and, behind `step`, one `--journal`; the first `--` is dropped; all others name files, of which `step`
+/// and `audit` take three, or are the two numbers of `make`. None exactly where the words are not of that form. The only error is out of memory.
 pub fn command_of(alloc: Global, words: &[String]) -> Result<Option<Order>, Memory>
-    ensures { IfOk result (λ order. order ≡ order_of (map string_bytes words.now)) }
+    ensures exact { IfOk result (λ order. order ≡ order_of (map string_bytes words.now)) }
+    ensures form { IfOk result (λ order. AreFormed order) }
 {
     match words {
         [] => Ok(None),
@@ -76,6 +89,8 @@ pub fn command_of(alloc: Global, words: &[String]) -> Result<Option<Order>, Memo
                 step_of(alloc, others)
             } else if command.as_bytes() == b"audit".as_slice() {
                 audit_of(alloc, others)
+            } else if command.as_bytes() == b"make".as_slice() {
+                make_of(alloc, others)
             } else {
                 Ok(None)
             }
@@ -85,7 +100,8 @@ pub fn command_of(alloc: Global, words: &[String]) -> Result<Option<Order>, Memo
 
 /// The order to follow a schedule, where the words name exactly three files.
 fn step_of(alloc: Global, words: &[String]) -> Result<Option<Order>, Memory>
-    ensures { IfOk result (λ order. order ≡ step_order_of (map string_bytes words.now)) }
+    ensures exact { IfOk result (λ order. order ≡ step_order_of (map string_bytes words.now)) }
+    ensures form { IfOk result (λ order. AreFormed order) }
 {
     match words_matches(alloc, true, words) {
         Ok(matches) => step_by_files(alloc, matches.get_flag("journal"), matches.get_raw("files")),
@@ -95,10 +111,22 @@ fn step_of(alloc: Global, words: &[String]) -> Result<Option<Order>, Memory>
 
 /// The order to judge a journal, where the words name exactly three files.
 fn audit_of(alloc: Global, words: &[String]) -> Result<Option<Order>, Memory>
-    ensures { IfOk result (λ order. order ≡ audit_order_of (map string_bytes words.now)) }
+    ensures exact { IfOk result (λ order. order ≡ audit_order_of (map string_bytes words.now)) }
+    ensures form { IfOk result (λ order. AreFormed order) }
 {
     match words_matches(alloc, false, words) {
         Ok(matches) => audit_by_files(alloc, matches.get_raw("files")),
+        Err(error) => refusal(error.kind()),
+    }
+}
+
+/// The order to make a script, where the words are exactly a number and how many commands it is to have.
+fn make_of(alloc: Global, words: &[String]) -> Result<Option<Order>, Memory>
+    ensures exact { IfOk result (λ order. order ≡ make_order_of (map string_bytes words.now)) }
+    ensures form { IfOk result (λ order. AreFormed order) }
+{
+    match words_matches(alloc, false, words) {
+        Ok(matches) => Ok(make_by_words(matches.get_raw("files"))),
         Err(error) => refusal(error.kind()),
     }
 }
@@ -109,7 +137,8 @@ fn step_by_files(
     journal: bool,
     files: Option<&[&str]>,
 ) -> Result<Option<Order>, Memory>
-    ensures { IfOk result (λ order. order ≡ step_by journal (files_given files.entry)) }
+    ensures exact { IfOk result (λ order. order ≡ step_by journal (files_given files.entry)) }
+    ensures form { IfOk result (λ order. AreFormed order) }
 {
     match files {
         Some([topology, script, schedule]) => Ok(Some(Order::Step {
@@ -124,7 +153,8 @@ fn step_by_files(
 
 /// The order to judge a journal by these files.
 fn audit_by_files(alloc: Global, files: Option<&[&str]>) -> Result<Option<Order>, Memory>
-    ensures { IfOk result (λ order. order ≡ audit_by (files_given files.entry)) }
+    ensures exact { IfOk result (λ order. order ≡ audit_by (files_given files.entry)) }
+    ensures form { IfOk result (λ order. AreFormed order) }
 {
     match files {
         Some([topology, script, journal]) => Ok(Some(Order::Audit {
@@ -136,9 +166,26 @@ fn audit_by_files(alloc: Global, files: Option<&[&str]>) -> Result<Option<Order>
     }
 }
 
+/// The order to make a script by these words.
+fn make_by_words(words: Option<&[&str]>) -> Option<Order>
+    ensures exact { result ≡ make_by (files_given words.entry) }
+    ensures form { AreFormed result }
+{
+    let Some([number, commands]) = words else {
+        return None;
+    };
+    let number = parse_number(number.as_bytes())?;
+    let commands = parse_number_within(FEWEST_COMMANDS, MOST_COMMANDS, commands.as_bytes())?;
+    Some(Order::Make {
+        number,
+        commands: commands as u32,
+    })
+}
+
 /// What clap's refusal of the words means: no order, but where memory ran out.
 fn refusal(kind: ErrorKind) -> Result<Option<Order>, Memory>
-    ensures { IfOk result (λ order. (order ≡ None) × (kind ≢ ErrorKind.OutOfMemory)) }
+    ensures none { IfOk result (λ order. (order ≡ None) × (kind ≢ ErrorKind.OutOfMemory)) }
+    ensures form { IfOk result (λ order. AreFormed order) }
 {
     match kind {
         ErrorKind::OutOfMemory => Err(Memory),

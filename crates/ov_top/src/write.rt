@@ -4,6 +4,7 @@ ghost use Rattle.std.specs.List.{AllByRecursion};
 ghost use Rattle.ov_journal.specs.Journal.{journal_text};
 ghost use Rattle.ov_journal.specs.Line.{HasLine};
 ghost use Rattle.ov_report.specs.Report.{lines_text, story_lines};
+ghost use Rattle.ov_report.specs.Summary.{summary_of, summary_text};
 ghost use Rattle.ov_top.specs.Causes.{Puts};
 ghost use Rattle.ov_top.specs.Ending.{report_status, usage_text, verdict_status, verdict_text};
 ghost use Rattle.ov_top.specs.Form.{form_status, form_text};
@@ -16,7 +17,7 @@ use ov_base::{Memory, print_number};
 use ov_event::Entry;
 use ov_io::{ReportError, Sink, put_text};
 use ov_journal::{Verdict, write_journal};
-use ov_report::Report;
+use ov_report::{Report, summary_to};
 use ov_world::Story;
 use std::alloc::Global;
 
@@ -146,6 +147,16 @@ fn put_journal<K: Sink>(alloc: Global, report: &Report<'_>, entries: &[Entry], o
     match write_journal(alloc, entries, out) {
         Err(error) => status_of(error),
         Ok(()) => status_of_lines(report),
+    }
+}
+
+/// Writes the summary of the story, a put for each line. The status is 0, or that of the sink's fault or of `Memory`.
+pub(crate) fn put_summary<K: Sink>(alloc: Global, story: &Story, out: &mut K) -> u8
+    ensures { Puts 0 (summary_text (summary_of story.now.script story.now.entries)) result (K.faults out.old) (K.faults out.new) (K.written out.old) (K.written out.new) }
+{
+    match summary_to(alloc, story, out) {
+        Ok(()) => 0,
+        Err(error) => status_of(error),
     }
 }
 

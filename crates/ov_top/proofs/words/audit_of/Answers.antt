@@ -12,16 +12,16 @@ use Rattle.ov_top.proofs.words.audit_of.Goals as goal
 abbrev order_said : Option Said → Option Order
 order_said o = o >>= λ said. audit_by said.files
 
-pub returns-in-Ok : goal.returns-in-Ok
-returns-in-Ok c =
+pub returns-in-Ok-clause-exact : goal.returns-in-Ok-clause-exact
+returns-in-Ok-clause-exact c =
     let all = all_said false c.args.words.now (found_of c.in-Ok.matches) c.in-Ok.ensures.faults c.in-Ok.ensures.rows in
     let files = ap (λ (o : Option (List (List ℕ))). unwrap_or o []) c.get_raw.ensures ∙ all.files in
-    IfOk-weaker c.audit_by_files.result _ _ (λ order is. is ∙ ap audit_by files ∙ sym (ap order_said all.read)) c.audit_by_files.ensures
+    IfOk-weaker c.audit_by_files.result _ _ (λ order is. is ∙ ap audit_by files ∙ sym (ap order_said all.read)) c.audit_by_files.ensures.exact
 
-pub returns-in-Err : goal.returns-in-Err
-returns-in-Err c =
+pub returns-in-Err-clause-exact : goal.returns-in-Err-clause-exact
+returns-in-Err-clause-exact c =
     IfOk-weaker c.refusal.result _ _
     (λ order is. is.0 ∙ elim c.in-Err.ensures.faults [
       | inl memory ↦ absurd (is.1 (c.kind.ensures ∙ memory))
       | inr among ↦ sym (ap order_said (nothing_is_said false c.args.words.now _ among))
-    ]) c.refusal.ensures
+    ]) c.refusal.ensures.none

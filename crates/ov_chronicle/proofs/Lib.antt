@@ -1,0 +1,5 @@
+pub mod Prefixes
+pub mod Tellings
+pub mod Keeps
+pub mod Starts
+pub mod Closings
